@@ -63,15 +63,16 @@ def heads(crate):
 
 
 @functools.lru_cache(maxsize=None)
-def parts_below(crate):
-    """The definitions of all crates below, and the heads of those that it uses: each with its crate's name before its path, its names and its text."""
-    found = [(it, part) for it in crate.below() for part in definitions(it)] + [(it, part) for it in crate.uses for part in heads(it)]
-    return [(f"{it.name}/{path}", names, text) for it, (path, names, text) in found]
+def parts(crate, of_what):
+    """The definitions or heads of the crate: each with the crate's name before its path, the names that lead to it, its text, and the text's words."""
+    return [(f"{crate.name}/{path}", names, text, words_in(text)) for path, names, text in of_what(crate)]
 
 
 @functools.lru_cache(maxsize=None)
-def names_below(crate):
-    return frozenset().union(*(names for _, names, _ in parts_below(crate)))
+def below(crate):
+    """The definitions of all crates below, and the heads of those that it uses; and the names that lead to them."""
+    found = [part for it in crate.below() for part in parts(it, definitions)] + [part for it in crate.uses for part in parts(it, heads)]
+    return found, frozenset().union(*(names for _, names, *_ in found))
 
 
 @functools.lru_cache(maxsize=None)
@@ -85,16 +86,16 @@ def sum_of_own(crate):
 @functools.lru_cache(maxsize=None)
 def sum_of_reached(crate, words):
     """The sum of what these words lead to in the crates below."""
-    left, found = parts_below(crate), []
+    left, found = below(crate)[0], []
     while more := [it for it in left if not it[1] or it[1] & words]:
         left = [it for it in left if it[1] and not it[1] & words]
-        words = words.union(*(words_in(text) for _, _, text in more))
+        words = words.union(*(it[3] for it in more))
         found += more
-    return sum_of(*(part for name, text in sorted((name, text) for name, _, text in found) for part in (name, text)))
+    return sum_of(*(part for name, text in sorted((name, text) for name, _, text, _ in found) for part in (name, text)))
 
 
 def sum_of_mutant(edit):
     """The sum of all that tells whether the mutant is refused."""
     own, words = sum_of_own(edit.crate)
-    words = words.union(*(words_in(text) for text in edit.texts.values())) & names_below(edit.crate)
+    words = words.union(*map(words_in, edit.lines.values())) & below(edit.crate)[1]
     return sum_of(own, sum_of_reached(edit.crate, words), *(part for path, text in sorted(edit.texts.items()) for part in (path, text)))

@@ -5,12 +5,14 @@ kept stands then in the crate's out/ in the tree.
 """
 import collections
 import contextlib
+import errno
 import os
 import re
 import shutil
 import signal
 import subprocess
 import tempfile
+import time
 
 from command import ONE_JOB, finds_empty_contracts, rt, why_no_proof_of_tests, why_not_proved
 from crates import text_of
@@ -72,6 +74,9 @@ class Proofs:
                 else:
                     self.take_or_prove(crate, runs, checks)
             self.passed.append(crate.name)
+        except OSError as error:
+            self.failed.append(crate.name)
+            self.progress.tell(f"{crate.name}: FAILED: {error}")
         except Failed as failed:
             self.failed.append(crate.name)
             self.progress.tell(f"{crate.name}: FAILED: {failed.why}" + "".join(f"\n  {it}" for it in told_lines(crate, failed.said)))
@@ -239,7 +244,7 @@ def run_program(crate, ending):
         env = {"PATH": "/usr/local/bin:/usr/bin:/bin", "HOME": f"{room}/data", "TMPDIR": f"{room}/data", "LANG": "C.UTF-8"}
         how = {"cwd": f"{room}/data", "env": env, "input": given_to(crate, "stdin"), "capture_output": True, "timeout": LIMIT}
         try:
-            ran = subprocess.run(words, check=False, **how)
+            ran = ended(words, **how)
         except subprocess.TimeoutExpired as error:
             raise Failed(f"its program, built by {by}, had not ended after {LIMIT} seconds") from error
     wanted = int(given_to(crate, "status").strip() or b"0")
@@ -251,20 +256,31 @@ def run_program(crate, ending):
         raise Failed(f"its program, built by {by}, wrote something else than crates/{crate.name}/stdout", difference(crate, ran.stdout))
 
 
+def ended(words, **how):
+    """Runs a program to its end. (One that was copied just now may be held open for a moment, by a command that another thread began meanwhile.)"""
+    until = time.monotonic() + 10
+    while True:
+        try:
+            return subprocess.run(words, check=False, **how)
+        except OSError as error:
+            if error.errno != errno.ETXTBSY or time.monotonic() > until:
+                raise
+        time.sleep(0.02)
+
+
 def program_of_tests(crate):
     return f"out/{crate.name}_tests"
 
 
 def run_kept_tests(crate):
-    """Runs each of the crate's tests by the program that an earlier run built of them."""
-    program = f"{crate.folder}/{program_of_tests(crate)}"
-    how = {"stdin": subprocess.DEVNULL, "stdout": subprocess.PIPE, "stderr": subprocess.STDOUT, "errors": "replace", "timeout": LIMIT_OF_TEST}
-    with tempfile.TemporaryDirectory() as room:
-        try:
-            names = re.findall(r"^(\S+): test$", subprocess.run([program, "--list"], cwd=room, check=False, **how).stdout, re.M)
-            ran = [(it, subprocess.run([program, it], cwd=room, check=False, **how)) for it in names]
-        except (OSError, subprocess.TimeoutExpired) as error:
-            raise Failed(f"its tests did not end: {error}") from error
+    """Runs each of the crate's tests by the program that an earlier run built of them, at the top of the tree."""
+    program, how = f"{crate.folder}/{program_of_tests(crate)}", {"cwd": os.path.dirname(os.path.dirname(crate.folder)), "timeout": LIMIT_OF_TEST}
+    how |= {"stdin": subprocess.DEVNULL, "stdout": subprocess.PIPE, "stderr": subprocess.STDOUT, "errors": "replace"}
+    try:
+        names = re.findall(r"^(\S+): test$", ended([program, "--list"], **how).stdout, re.M)
+        ran = [(it, ended([program, it], **how)) for it in names]
+    except subprocess.TimeoutExpired as error:
+        raise Failed(f"its tests had not ended: {error}") from error
     failed = [(name, it) for name, it in ran if it.returncode]
     if failed or not ran:
         raise Failed(f"{len(failed)} of its {len(ran)} tests did not pass: {failed[0][0] if failed else 'none was found'}", failed[0][1].stdout if failed else "")

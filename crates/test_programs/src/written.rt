@@ -51,7 +51,7 @@ fn line_of(
         None => Err(Refusal::HandleLimit),
     };
     let mut out = Vec::new(alloc);
-    write_line(&mut out, ThreadId::new((who % 256) as u16), call, &answer)?;
+    write_line(&mut out, ThreadId::new(who.min(255) as u16), call, &answer)?;
     Ok(out)
 }
 

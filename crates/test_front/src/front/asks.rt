@@ -64,22 +64,13 @@ pub enum Ask {
     BeginAgain,
     /// A part of the journal. No call by name.
     Part,
+    /// The moment. No call by name.
+    Now,
 }
 
 /// Which of two threads asks for what, under which number that is written, or 0, and what it is to be answered.
 #[derive(Clone, Copy)]
 pub struct Row(pub u32, pub Ask, pub u64, pub Answer);
-
-/// What two threads of one front ask for, in turn.
-#[derive(Clone, Copy)]
-pub struct Scenario {
-    pub shows: &'static str,
-    /// The room of the journal.
-    pub room: usize,
-    pub rows: &'static [Row],
-    /// How many entries there are at the end, grants too.
-    pub entries: usize,
-}
 
 /// The handles of a list of up to five, and how many they are.
 fn listed(numbers: &[u32]) -> ([Handle; 5], usize)
@@ -205,7 +196,7 @@ fn ask_by_pass<N: Named, R: Wait + Alloc<A = Global>>(
             let (held, ended) = calls.exit(pass);
             return (held, said_done(ended));
         }
-        Ask::Poll | Ask::Await | Ask::BeginAgain | Ask::Part => Said::NOTHING,
+        Ask::Poll | Ask::Await | Ask::BeginAgain | Ask::Part | Ask::Now => Said::NOTHING,
     };
     (Held::Pass(pass), said)
 }

@@ -11,7 +11,7 @@ use nt_front::{Blank, Carried, Front, Held, History, Named, Pass, open};
 use nt_status::{Handle, Refusal, ThreadId};
 use std::alloc::{AllocError, Global};
 use std::sync::Wait;
-use std::sync::atomic::{AtomicBool, AtomicU64};
+use std::sync::atomic::AtomicU64;
 use std::thread;
 use std::thread::{Promise, Scope, Threads};
 use std::time::Clock;
@@ -27,8 +27,8 @@ pub struct Crew {
     pub jobs: &'static [Job],
     /// How many threads roam.
     pub roaming: AtomicU64,
-    /// Whether some thread's wait has pended.
-    pub awaited: AtomicBool,
+    /// How many waits have come, or pended.
+    pub awaited: AtomicU64,
     /// How often the clock ticks at the most.
     pub ticks: u64,
     /// From which the calls of those that roam are drawn.

@@ -40,18 +40,13 @@ pub enum Job {
         mutex: u32,
         times: u32,
     },
-    /// Waits for the event by so many polls at the most, with its turn given up between two.
-    Poll {
+    /// Waits for the event, asleep or by polls.
+    Await {
         event: u32,
-        polls: u32,
+        manner: Manner,
     },
     /// Sets the event once a thread waits for it, after so many turns given up at the most.
     SetWhenAwaited {
-        event: u32,
-        turns: u32,
-    },
-    /// The same, and sets it again.
-    SetTwice {
         event: u32,
         turns: u32,
     },
@@ -130,20 +125,11 @@ pub fn work<N: Named, R: Wait + Clock>(
         Job::Toil { rounds } => toil(rt, front, crew, pass, rounds, told),
         Job::Sleep { object, sets } => wakes::sleep(rt, front, crew, pass, object, sets, told),
         Job::Wake(way) => wake(rt, front, crew, pass, way, told),
-        Job::Poll { event, polls } => poll(rt, front, crew, pass, Handle::new(event), polls, told),
+        Job::Await { event, manner } => {
+            await_event(rt, front, crew, pass, Handle::new(event), manner, told)
+        }
         Job::SetWhenAwaited { event, turns } => {
             set_when_awaited(rt, front, crew, &mut pass, Handle::new(event), turns, told);
-            Held::Pass(pass)
-        }
-        Job::SetTwice { event, turns } => {
-            set_when_awaited(rt, front, crew, &mut pass, Handle::new(event), turns, told);
-            call(
-                rt,
-                front,
-                &mut pass,
-                Act::SetEvent(Handle::new(event)),
-                told,
-            );
             Held::Pass(pass)
         }
     }
@@ -184,7 +170,7 @@ pub fn wait<N: Named>(
         }
         Begun::Pended(sleeper, receipt) => {
             told.called(&receipt);
-            crew.awaited.store(true, Ordering::SeqCst);
+            crew.awaited.fetch_add(1, Ordering::SeqCst);
             match manner {
                 Manner::Asleep => {
                     let (pass, receipt) = front.sleep(rt, sleeper);
@@ -340,18 +326,18 @@ fn lock<N: Named>(
     pass
 }
 
-/// Waits for the event by polls.
-fn poll<N: Named>(
+/// Waits for the event.
+fn await_event<N: Named>(
     rt: &impl Wait,
     front: &Front<N>,
     crew: &Crew,
     pass: Pass<N>,
     event: Handle,
-    polls: u32,
+    manner: Manner,
     told: &mut Told,
 ) -> Held<N> {
     match objects(crew.alloc, &[event], false, ENDLESS) {
-        Ok(asked) => wait(rt, front, crew, pass, asked, Manner::Polling(polls), told),
+        Ok(asked) => wait(rt, front, crew, pass, asked, manner, told),
         Err(_) => {
             told.lost();
             Held::Pass(pass)
@@ -370,7 +356,7 @@ fn set_when_awaited<N: Named>(
     told: &mut Told,
 ) {
     for _ in 0..turns {
-        if crew.awaited.load(Ordering::SeqCst) {
+        if crew.awaited.load(Ordering::SeqCst) > 0 {
             call(rt, front, pass, Act::SetEvent(event), told);
             return;
         }

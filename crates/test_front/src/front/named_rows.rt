@@ -1,14 +1,17 @@
 //! Each call of a front by its name, on its happy path and refused. What it is to be answered is Win32's reference, as docs/WIN32.md has it;
 //! a call that the reference never refuses is refused here by a full journal.
-use crate::front::asks::Ask::{Await, Begin, Do, Exit, Make, NextApc, Poll, Release, Wait};
+use crate::front::again_rows::Life;
+use crate::front::asks::Ask::{
+    Await, Begin, Do, Exit, Make, NextApc, Now, Part, Poll, Release, Wait,
+};
 use crate::front::asks::Does::{
     CancelTimer, Close, Pulse, QueueApc, ReleaseMutex, Reset, Set, SetTimer, TickTo,
 };
 use crate::front::asks::Makes::{Event, OwnedMutex, Semaphore, Timer, ToModify, ToWait};
+use crate::front::asks::Row;
 use crate::front::asks::Waits::{All, Any, One, Sleep, Swap};
-use crate::front::asks::{Row, Scenario};
 use crate::front::says::Answer::{
-    Apc, Done, Ended, Full, Handle, NoApc, Pended, Previous, Refused, Still,
+    Apc, Done, Ended, Entries, Full, Handle, Moment, NoApc, Pended, Previous, Refused, Still,
 };
 
 const INFINITE: u32 = 0xFFFF_FFFF;
@@ -36,8 +39,9 @@ const TOO_MANY_POSTS: u32 = 298;
 const MOMENT_BACK: u32 = 0x2000_0005;
 
 /// The threads' handles are 0 and 1, so those of the objects begin at 2.
-pub const SCENARIOS: &[Scenario] = &[
-    Scenario {
+pub const SCENARIOS: &[Life] = &[
+    Life {
+        lasts: false,
         shows: "an event is created, set, reset and pulsed, and closed",
         room: 20,
         rows: &[
@@ -57,9 +61,11 @@ pub const SCENARIOS: &[Scenario] = &[
             Row(0, Do(Pulse(9)), 14, Refused(INVALID_HANDLE)),
             Row(0, Wait(One(9), 0, false), 15, Refused(INVALID_HANDLE)),
         ],
-        entries: 15,
+        rest: 15,
+        renewed: &[],
     },
-    Scenario {
+    Life {
+        lasts: false,
         shows: "a semaphore tells the count before, and keeps to its maximum",
         room: 20,
         rows: &[
@@ -71,9 +77,11 @@ pub const SCENARIOS: &[Scenario] = &[
             Row(0, Release(2, 0), 6, Refused(INVALID_PARAMETER)),
             Row(0, Release(1, 1), 7, Refused(INVALID_HANDLE)),
         ],
-        entries: 7,
+        rest: 7,
+        renewed: &[],
     },
-    Scenario {
+    Life {
+        lasts: false,
         shows: "a mutex is its owner's, and abandoned if its owner ends",
         room: 20,
         rows: &[
@@ -86,9 +94,11 @@ pub const SCENARIOS: &[Scenario] = &[
             Row(0, Wait(One(1), 0, false), 7, Ended(0)),
             Row(0, Do(QueueApc(1, 7, 9)), 8, Refused(GEN_FAILURE)),
         ],
-        entries: 8,
+        rest: 8,
+        renewed: &[],
     },
-    Scenario {
+    Life {
+        lasts: false,
         shows: "a timer expires once its time has come, unless it is canceled",
         room: 20,
         rows: &[
@@ -111,9 +121,11 @@ pub const SCENARIOS: &[Scenario] = &[
             Row(0, Wait(One(2), 0, false), 12, Ended(TIMEOUT)),
             Row(0, Do(CancelTimer(1)), 13, Refused(INVALID_HANDLE)),
         ],
-        entries: 13,
+        rest: 13,
+        renewed: &[],
     },
-    Scenario {
+    Life {
+        lasts: false,
         shows: "an APC is queued to a thread, and taken after a wait that it ended",
         room: 20,
         rows: &[
@@ -125,9 +137,11 @@ pub const SCENARIOS: &[Scenario] = &[
             Row(1, NextApc, 6, NoApc),
             Row(1, Wait(Sleep, 0, false), 7, Ended(0)),
         ],
-        entries: 7,
+        rest: 7,
+        renewed: &[],
     },
-    Scenario {
+    Life {
+        lasts: false,
         shows: "a duplicate has the rights that were asked for, and no others",
         room: 20,
         rows: &[
@@ -138,9 +152,11 @@ pub const SCENARIOS: &[Scenario] = &[
             Row(0, Do(Set(2)), 5, Done),
             Row(0, Wait(One(3), 0, false), 6, Ended(0)),
         ],
-        entries: 6,
+        rest: 6,
+        renewed: &[],
     },
-    Scenario {
+    Life {
+        lasts: false,
         shows: "a wait for any takes the first object, and one for all takes each or none",
         room: 20,
         rows: &[
@@ -163,9 +179,11 @@ pub const SCENARIOS: &[Scenario] = &[
             ),
             Row(0, Wait(All(&[2, 9]), 0, false), 13, Refused(INVALID_HANDLE)),
         ],
-        entries: 13,
+        rest: 13,
+        renewed: &[],
     },
-    Scenario {
+    Life {
+        lasts: false,
         shows: "one object is signaled and another waited for",
         room: 20,
         rows: &[
@@ -185,9 +203,11 @@ pub const SCENARIOS: &[Scenario] = &[
                 Refused(INVALID_HANDLE),
             ),
         ],
-        entries: 10,
+        rest: 10,
+        renewed: &[],
     },
-    Scenario {
+    Life {
+        lasts: false,
         shows: "a wait that begins ends at once, or pends until it is granted",
         room: 40,
         rows: &[
@@ -231,9 +251,11 @@ pub const SCENARIOS: &[Scenario] = &[
                 Refused(INVALID_PARAMETER),
             ),
         ],
-        entries: 22,
+        rest: 22,
+        renewed: &[],
     },
-    Scenario {
+    Life {
+        lasts: false,
         shows: "in a full journal nothing is done, and the pass is kept",
         room: 1,
         rows: &[
@@ -267,6 +289,68 @@ pub const SCENARIOS: &[Scenario] = &[
             Row(0, Exit, 0, Full),
             Row(0, Do(Set(2)), 0, Full),
         ],
-        entries: 1,
+        rest: 1,
+        renewed: &[],
+    },
+    Life {
+        shows: "room is kept for the grant of a wait that pends",
+        lasts: false,
+        room: 3,
+        rows: &[
+            Row(0, Make(Event), 1, Handle(2)),
+            Row(1, Begin(One(2), INFINITE, false), 2, Pended),
+            Row(0, Do(Set(2)), 0, Full),
+            Row(1, Poll, 0, Still),
+        ],
+        rest: 2,
+        renewed: &[],
+    },
+    Life {
+        shows: "with one place more a poll finds the grant, and then there is no room",
+        lasts: false,
+        room: 4,
+        rows: &[
+            Row(0, Make(Event), 1, Handle(2)),
+            Row(1, Begin(One(2), INFINITE, false), 2, Pended),
+            Row(0, Do(Set(2)), 3, Done),
+            Row(0, Do(Set(2)), 0, Full),
+            Row(1, Poll, 4, Ended(0)),
+            Row(0, Do(Set(2)), 0, Full),
+        ],
+        rest: 4,
+        renewed: &[],
+    },
+    Life {
+        shows: "a part makes room, and numbers go on",
+        lasts: false,
+        room: 3,
+        rows: &[
+            Row(0, Make(Event), 1, Handle(2)),
+            Row(1, Begin(One(2), INFINITE, false), 2, Pended),
+            Row(0, Do(Set(2)), 0, Full),
+            Row(0, Part, 1, Entries(2)),
+            Row(0, Do(Set(2)), 3, Done),
+            Row(1, Poll, 4, Ended(0)),
+            Row(1, NextApc, 5, NoApc),
+            Row(0, Part, 3, Entries(3)),
+            Row(0, Part, 6, Entries(0)),
+        ],
+        rest: 0,
+        renewed: &[],
+    },
+    Life {
+        shows: "the moment never goes back, and each pass reads the same",
+        lasts: false,
+        room: 9,
+        rows: &[
+            Row(0, Now, 0, Moment(0)),
+            Row(0, Do(TickTo(70)), 1, Done),
+            Row(0, Now, 0, Moment(70)),
+            Row(1, Now, 0, Moment(70)),
+            Row(0, Do(TickTo(60)), 2, Refused(MOMENT_BACK)),
+            Row(0, Now, 0, Moment(70)),
+        ],
+        rest: 2,
+        renewed: &[],
     },
 ];

@@ -16,7 +16,7 @@ use std::env::{Env, var};
 use std::marker::Brand;
 use std::process::Abort;
 use std::sync::Wait;
-use std::sync::atomic::{AtomicBool, AtomicU64};
+use std::sync::atomic::AtomicU64;
 use std::test::Fail;
 use std::thread::Threads;
 use std::time::Clock;
@@ -143,9 +143,9 @@ const HELD: Roll = Roll {
             event: 2,
             turns: 1_000_000,
         },
-        Job::Poll {
+        Job::Await {
             event: 2,
-            polls: 1_000_000,
+            manner: Manner::Polling(1_000_000),
         },
     ],
     roaming: 0,
@@ -167,7 +167,7 @@ pub fn man_all<R: Threads + Wait + Clock + Sync>(
         creations: roll.creations,
         jobs: roll.jobs,
         roaming: AtomicU64::new(roll.roaming),
-        awaited: AtomicBool::new(false),
+        awaited: AtomicU64::new(0),
         ticks: 400_000,
         seed,
         parts: Parts::new(alloc, roll.every),

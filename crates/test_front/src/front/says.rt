@@ -28,6 +28,8 @@ pub enum Answer {
     Taken,
     /// So many entries are in the part, of which the first is the number of the answer.
     Entries(usize),
+    /// The moment that a pass reads.
+    Moment(u64),
     /// What the thread holds does not let it ask for this.
     Nothing,
 }

@@ -7,11 +7,6 @@ use nt_status::{Status, ThreadId};
 /// Drops a front that was never opened.
 pub fn let_go(_blank: Blank) {}
 
-/// How many entries the history has.
-pub fn count_of(history: History) -> usize {
-    history.entries.len()
-}
-
 /// The number of the first entry, and how many there are.
 #[derive(Clone, Copy, Default, PartialEq, Eq, Debug)]
 pub struct Span {

@@ -1,7 +1,7 @@
 //! Each public call that can grant a thread which sleeps wakes it: a body that forgets the bell leaves the sleeper asleep, and its test never ends.
-use crate::expect::expect_at;
+use crate::expect::{expect_at, expect_equal};
 use crate::front::crew::Crew;
-use crate::front::jobs::{Job, call};
+use crate::front::jobs::{Job, Manner, call};
 use crate::front::runs::{NEVER, Roll, man_all};
 use crate::front::steps::{Creation, ENDLESS, INFINITE, objects};
 use crate::front::told::Told;
@@ -31,6 +31,10 @@ const ANSWERS: u32 = 3;
 pub enum Way {
     Call,
     Tick,
+    /// Sets this event, where more than one thread sleeps.
+    SetFor(u32),
+    /// The same, after a second.
+    SetLater(u32),
     /// A wait that begins by a signal, and ends at once.
     Begin,
     /// A wait that begins by a signal, and pends until the sleeper has answered.
@@ -56,7 +60,7 @@ pub fn sleep<N: Named>(
             alertable: false,
         })),
     };
-    crew.awaited.store(true, Ordering::SeqCst);
+    crew.awaited.fetch_add(1, Ordering::SeqCst);
     let Ok(asked) = asked else {
         told.lost();
         return Held::Pass(pass);
@@ -144,6 +148,19 @@ fn tick<N: Named>(rt: &impl Wait, front: &Front<N>, pass: &mut Pass<N>, told: &m
     }
 }
 
+/// Sets the event.
+fn set<N: Named>(
+    rt: &impl Wait,
+    front: &Front<N>,
+    mut pass: Pass<N>,
+    event: u32,
+    told: &mut Told,
+) -> Held<N> {
+    let act = Act::SetEvent(Handle::new(event));
+    call(rt, front, &mut pass, act, told);
+    Held::Pass(pass)
+}
+
 /// Ends the thread.
 fn exit<N: Named>(rt: &impl Wait, front: &Front<N>, pass: Pass<N>, told: &mut Told) -> Held<N> {
     match front.exit(rt, pass) {
@@ -158,7 +175,7 @@ fn exit<N: Named>(rt: &impl Wait, front: &Front<N>, pass: Pass<N>, told: &mut To
     }
 }
 
-/// Makes this call once the sleeper sleeps.
+/// Makes this call once each other thread has come to its wait.
 pub fn wake<N: Named, R: Wait + Clock>(
     rt: &R,
     front: &Front<N>,
@@ -168,19 +185,21 @@ pub fn wake<N: Named, R: Wait + Clock>(
     told: &mut Told,
 ) -> Held<N> {
     for _ in rt.forever() {
-        if crew.awaited.load(Ordering::SeqCst) {
+        if crew.awaited.load(Ordering::SeqCst) >= u64::from(crew.threads.saturating_sub(1)) {
             break;
         }
         thread::yield_now();
     }
     // Longer than a thread looks for its grant before it sleeps.
-    thread::sleep(rt, Duration::from_millis(20));
+    let pause = if matches!(way, Way::SetLater(_)) {
+        1000
+    } else {
+        20
+    };
+    thread::sleep(rt, Duration::from_millis(pause));
     match way {
-        Way::Call => {
-            let set = Act::SetEvent(Handle::new(STARTS));
-            call(rt, front, &mut pass, set, told);
-            Held::Pass(pass)
-        }
+        Way::Call => set(rt, front, pass, STARTS, told),
+        Way::SetFor(event) | Way::SetLater(event) => set(rt, front, pass, event, told),
         Way::Tick => {
             tick(rt, front, &mut pass, told);
             Held::Pass(pass)
@@ -240,13 +259,13 @@ const WAYS: &[(&[Job], u64, u64)] = &[
     (&[Job::Wake(Way::Wait), ANSWERS_THEN], 5, 2),
 ];
 
-/// Has two threads do these jobs.
+/// How many calls and grants the journal of this crew has; none of either where something is wrong.
 fn calls_and_grants<R: Threads + Wait + Clock + Sync>(
     rt: &R,
     alloc: Global,
-    jobs: &'static [Job],
+    roll: Roll,
 ) -> Result<(u64, u64), Fail> {
-    let seen = man_all(rt, alloc, woken(jobs), 0)?;
+    let seen = man_all(rt, alloc, roll, 0)?;
     let wrong = (seen.lost, seen.sleeping, seen.differ, seen.difference);
     if wrong != (0, 0, 0, 0) {
         return Ok((0, 0));
@@ -260,8 +279,56 @@ fn each_call_wakes_whom_it_grants(rt: HostRuntime) -> Result<(), Fail> {
         return Ok(());
     }
     for (place, (jobs, calls, grants)) in WAYS.iter().enumerate() {
-        let seen = calls_and_grants(&rt, rt.alloc(), jobs)?;
+        let seen = calls_and_grants(&rt, rt.alloc(), woken(jobs))?;
         expect_at(&rt, seen == (*calls, *grants), "way", place as u64);
     }
+    Ok(())
+}
+
+/// One thread sets a manual-reset event; each other one sleeps until then, once its wait has pended.
+const fn waiters(threads: u32, jobs: &'static [Job]) -> Roll {
+    Roll {
+        threads,
+        creations: &[Creation::Event(1)],
+        jobs,
+        roaming: 0,
+        room: 100,
+        every: NEVER,
+    }
+}
+
+/// A creation, three waits, and the set that ends them.
+#[test]
+fn one_call_wakes_three_sleepers(rt: HostRuntime) -> Result<(), Fail> {
+    if is_refusing(&rt) {
+        return Ok(());
+    }
+    const JOBS: &[Job] = &[
+        Job::Wake(Way::SetFor(4)),
+        Job::Await {
+            event: 4,
+            manner: Manner::Asleep,
+        },
+    ];
+    let seen = calls_and_grants(&rt, rt.alloc(), waiters(4, JOBS))?;
+    expect_equal(&rt, seen, (5, 3), "calls and grants");
+    Ok(())
+}
+
+/// `tests/threads` runs this alone, and looks at the processor time that it uses.
+#[test]
+fn a_thread_sleeps_for_a_second(rt: HostRuntime) -> Result<(), Fail> {
+    if is_refusing(&rt) {
+        return Ok(());
+    }
+    const JOBS: &[Job] = &[
+        Job::Wake(Way::SetLater(2)),
+        Job::Await {
+            event: 2,
+            manner: Manner::Asleep,
+        },
+    ];
+    let seen = calls_and_grants(&rt, rt.alloc(), waiters(2, JOBS))?;
+    expect_equal(&rt, seen, (3, 1), "calls and grants");
     Ok(())
 }

@@ -81,7 +81,7 @@ impl<'g> MemoryDoor<'g> {
         }
     }
 
-    /// Makes the call, and keeps it where it was not refused.
+    /// Makes the call, and keeps it where it was not refused. After a refusal nobody is held.
     fn make(&mut self, call: Call) -> Result<Reply, Refusal>
         ensures thread { self.new.thread ≡ self.old.thread }
         ensures made { OnOk result (self.new.made.items ≡ self.old.made.items ++ call ∷ []) }
@@ -89,6 +89,7 @@ impl<'g> MemoryDoor<'g> {
         self.made.reserve(1)?;
         if self.made.len() == self.accepts {
             self.accepts = usize::MAX;
+            self.gate.has_come.store(true, Ordering::SeqCst);
             return Err(Refusal::AccessDenied);
         }
         let reply = self.answer(&call);

@@ -1,13 +1,15 @@
-//! A front that lasts: numbers that come back, threads that begin again, and what its journal tells of both.
+//! What two threads of a front ask for in turn, what each is answered, and what the journal has of it, numbers given again and threads that
+//! begin again too.
 ghost use Rattle.std.specs.Prelude.{◌≡◌, ◌+◌, ◌≤◌, vec_len, vec_capacity};
 
 use crate::expect::expect_equal;
 use crate::front::again_rows::{Gives, LIVES, Life, Renewed};
 use crate::front::asks::{Ask, Makes, Row, ask_for};
+use crate::front::named_rows::SCENARIOS;
 use crate::front::replay::first_difference;
 use crate::front::says::{Answer, Said};
 use crate::front::told::let_go;
-use crate::refused::is_refusing;
+use crate::refused::{Host, is_refusing};
 use nt_core::{Act, Reply};
 use nt_front::{
     BegunAgain, Blank, Front, Held, History, Named, PackedEntry, Part, Pass, ReadEntry, Receipt,
@@ -86,6 +88,17 @@ fn said_part(taken: Result<Part, Refusal>, parts: &mut Vec<Part>) -> Said {
     Said { entry, answer }
 }
 
+/// A thread that has its pass reads the moment.
+fn read_moment<N: Named>(front: &Front<N>, held: Held<N>) -> (Held<N>, Said) {
+    match held {
+        Held::Pass(mut pass) => {
+            let answer = Answer::Moment(front.now(&mut pass).get());
+            (Held::Pass(pass), Said::unwritten(answer))
+        }
+        other => (other, Said::NOTHING),
+    }
+}
+
 /// What a thread is answered, and what it holds then.
 fn step<N: Named, R: Wait + Alloc<A = Global>>(
     calls: &Calls<'_, '_, N, R>,
@@ -98,6 +111,7 @@ fn step<N: Named, R: Wait + Alloc<A = Global>>(
     match ask {
         Ask::BeginAgain => begin_again(rt, front, held),
         Ask::Part => take_part(rt, front, held, parts),
+        Ask::Now => read_moment(front, held),
         _ => ask_for(calls, held, ask),
     }
 }
@@ -336,19 +350,29 @@ fn seen_of<R: Wait + Alloc<A = Global>>(rt: &R, life: &Life) -> Result<Seen, Ref
     })
 }
 
-#[test]
-fn numbers_come_back_to_a_front_that_lasts(rt: HostRuntime) -> Result<(), Fail> {
-    if is_refusing(&rt) {
+/// Each of these lives is answered as its rows say.
+fn check_all<R: Host + Wait + Alloc<A = Global>>(rt: &R, lives: &[Life]) -> Result<(), Fail> {
+    if is_refusing(rt) {
         return Ok(());
     }
-    for life in LIVES {
+    for life in lives {
         let expected = Seen {
             other: None,
             renewed: true,
             rest: life.rest,
             difference: 0,
         };
-        expect_equal(&rt, seen_of(&rt, life)?, expected, life.shows);
+        expect_equal(rt, seen_of(rt, life)?, expected, life.shows);
     }
     Ok(())
+}
+
+#[test]
+fn numbers_come_back_to_a_front_that_lasts(rt: HostRuntime) -> Result<(), Fail> {
+    check_all(&rt, LIVES)
+}
+
+#[test]
+fn each_call_by_its_name_is_answered(rt: HostRuntime) -> Result<(), Fail> {
+    check_all(&rt, SCENARIOS)
 }
