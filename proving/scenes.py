@@ -204,6 +204,8 @@ def as_a_whole(folder):
         os.makedirs(os.path.dirname(f"{folder}/copy/{os.path.relpath(it, TOP)}"), exist_ok=True)
         shutil.copy(it, f"{folder}/copy/{os.path.relpath(it, TOP)}")
     write(f"{folder}/copy/proving/scenes.py", "from telling import Step\n\n\ndef run(_):\n    return Step(1)\n")
+    for it in ("python/test", "rust/test"):
+        write(f"{folder}/copy/{it}", "#!/bin/sh\necho 'no such language here'\nexit 1\n", 0o755)
     for it in CALLED:
         os.symlink(shutil.which(it), f"{folder}/bin/{it}")
     os.symlink(sys.executable, f"{folder}/bin/python3")

@@ -1,3 +1,4 @@
+/* SPDX-License-Identifier: MIT OR Apache-2.0 */
 /* With -fshort-wchar a WCHAR has 16 bits, as on Windows: then the calls with wide text are those that take it so. (Text that a program makes itself,
  * as UTF-16, is else misread.) */
 #ifndef NTWIN_UTF16_H

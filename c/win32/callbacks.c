@@ -1,3 +1,4 @@
+/* SPDX-License-Identifier: MIT OR Apache-2.0 */
 /* ---- Callbacks: how they come into the queue of a pool, run in its threads, and end; and how a task is gone. */
 
 /* Puts a task into the queue, under the latch. */

@@ -1,3 +1,4 @@
+/* SPDX-License-Identifier: MIT OR Apache-2.0 */
 /* ---- A child that was forked, and what is kept there of threads that slept beside the dispatcher and are not in it: the lists are emptied, and no latch
  * is taken. The caller stays in its list where it sleeps, too, and a handler of signals of its own has forked. */
 
