@@ -1,3 +1,4 @@
+/* SPDX-License-Identifier: MIT OR Apache-2.0 */
 /* Win32's names over the proved dispatcher (nt.h).
  *
  * One lock is held round each call of the dispatcher, and no longer. Each thread has a seat: its number in the dispatcher, and a word
@@ -44,6 +45,8 @@
 
 #include "ntwin/process.c"
 
+#include "win32/counts.c"
+
 #include "win32/latch.c"
 
 #include "win32/slist.c"
@@ -80,6 +83,8 @@
 
 #include "win32/pool.c"
 
+#include "win32/callbacks.c"
+
 #include "win32/pool_calls.c"
 
 #include "win32/watch.c"
@@ -88,11 +93,15 @@
 
 #include "win32/ports.c"
 
+#include "win32/forked.c"
+
 #include "win32/text.c"
 
 #include "win32/messages.c"
 
 #include "win32/modules.c"
+
+#include "win32/utf16.c"
 
 #include "ntwin/report.c"
 

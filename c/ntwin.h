@@ -1,6 +1,7 @@
+/* SPDX-License-Identifier: MIT OR Apache-2.0 */
 /* Win32's waitable objects, waits and APCs for the threads of one process, on POSIX threads. Link with libntwin.
  *
- * A program that includes <windows.h> for these calls compiles unchanged with -I of the folder `win` beside this file. Which waits end,
+ * A program that includes <windows.h> for these calls compiles unchanged with -isystem of the folder `win` beside this. Which waits end,
  * in which order and with which status is decided by the proved dispatcher (nt.h); this layer puts threads to sleep and wakes them.
  *
  * What differs from Windows:
@@ -29,6 +30,8 @@
 #include <stdint.h>
 #include <stdio.h>
 #include <wchar.h>
+
+#include "win/utf16.h"
 
 #ifdef __cplusplus
 extern "C" {
@@ -283,6 +286,7 @@ void GetSystemTimeAsFileTime(LPFILETIME now);
 }
 #endif
 
+#include "win/counts.h"
 #include "win/interlocked.h"
 
 #endif

@@ -37,6 +37,15 @@ def write_all(part):
     return not part
 
 
+def tell_version(name):
+    """Writes the name and the number in VERSION, and answers the exit status."""
+    with open(f"{building.TOP}/VERSION", "rb") as file:
+        if write_all(f"{name} ".encode() + file.read()):
+            return 0
+    say(f"{name}: write failed")
+    return 1
+
+
 def run_and_show(built, words, what):
     """The same of a program that may take long, beside a terminal: that it does `what`, and for how long it has, is shown there. What it writes
     is handed on once it has ended."""

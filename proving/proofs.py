@@ -1,26 +1,31 @@
 """Proves each crate of a tree once, and runs its tests and its program.
 
-A crate is proved in a room of its own, over the libraries below it as this run built them. What its proof made and kept stands then in
-the crate's out/ in the tree.
+A crate is proved in a room of its own, over the libraries below it as this run built them or took them as kept (kept.py). What its proof made and
+kept stands then in the crate's out/ in the tree.
 """
 import collections
 import contextlib
+import errno
 import os
 import re
 import shutil
 import signal
 import subprocess
 import tempfile
+import time
 
 from command import ONE_JOB, finds_empty_contracts, rt, why_no_proof_of_tests, why_not_proved
 from crates import text_of
+from kept import sum_of, sum_of_crate
 from lanes import Task, memory_of, run_all
-from rooms import fill_room
+from rooms import OWN_WORK, fill_room
 
-# How long a program may run, in seconds.
-LIMIT = 120
+# How long a program may run, and a test, in seconds.
+LIMIT, LIMIT_OF_TEST = 120, 60
 # Where the program lies that Rattle's own compiler built.
 BY_RATTLE = "_by_rattle"
+# How a check ends that reads a crate and proves nothing.
+READ = re.compile(r"^only=0 proved=0$", re.M)
 
 
 class Failed(Exception):
@@ -32,13 +37,14 @@ class Failed(Exception):
 
 
 class Proofs:
-    """The proofs of a tree's crates, in rooms below a folder. They begin with nothing, or with what another tree's out/ has. In those named in `searched`
-    a check of the same sum (tried.py) has found no contract that no call can meet: from nothing such a library is proved by its build."""
+    """The proofs of a tree's crates, in rooms below a folder. What is `kept` of a crate as it stands is taken, with the work of later checks for those
+    that are `tried`. Other proofs begin with what was kept last, with what another tree's out/ has, or with nothing. Crates that are `only_read` are
+    not proved."""
 
-    def __init__(self, crates, rooms, progress, handles, begin_with=None, searched=()):
+    def __init__(self, crates, rooms, progress, handles, kept=None, begin_with=None, tried=(), only_read=()):
         self.crates, self.rooms, self.progress, self.handles, self.begin_with = crates, rooms, progress, handles, begin_with
-        self.searched = searched
-        self.checked, self.taken, self.failed, self.passed, self.parts, self.held = 0, 0, [], [], {}, set()
+        self.kept, self.tried, self.only_read = kept, tried, only_read
+        self.checked, self.taken, self.failed, self.passed, self.as_kept, self.parts, self.held = 0, 0, [], [], [], {}, set()
         self.used = {it.name for crate in crates.values() for it in crate.uses}
 
     def run(self, names, runs=True, checked=None):
@@ -57,25 +63,80 @@ class Proofs:
         return tasks
 
     def one(self, crate, given, runs, checks):
-        """Proves a crate, builds what those above it need, and runs what it has to run. It returns whether all passed."""
+        """Proves a crate or takes it as kept, builds what those above it need, and runs what it has to run. It returns whether all passed."""
         lacking = [it.name for it in crate.below() if not given[it.name]]
         try:
             if lacking:
                 raise Failed(f"not tried, since {lacking[0]} below it failed")
             with self.progress.working_on(crate.name):
-                self.prove_in_room(crate, runs, checks)
-                if runs and crate.is_program:
-                    for ending in (BY_RATTLE, ""):
-                        run_program(crate, ending)
+                if crate.name in self.only_read:
+                    self.read_in_room(crate)
+                else:
+                    self.take_or_prove(crate, runs, checks)
             self.passed.append(crate.name)
+        except OSError as error:
+            self.failed.append(crate.name)
+            self.progress.tell(f"{crate.name}: FAILED: {error}")
         except Failed as failed:
             self.failed.append(crate.name)
             self.progress.tell(f"{crate.name}: FAILED: {failed.why}" + "".join(f"\n  {it}" for it in told_lines(crate, failed.said)))
         return crate.name in self.passed
 
+    def take_or_prove(self, crate, runs, checks):
+        """Takes what is kept of the crate, or proves it and keeps what that made; and runs what it has to run."""
+        total = sum_of_crate(crate) if self.kept else None
+        is_held = self.kept and self.kept.take(crate, total, without=() if crate.name in self.tried else (OWN_WORK,))
+        is_kept = is_held is not None and self.is_whole(crate)
+        if is_kept:
+            self.as_kept.append(crate.name)
+            self.held |= {crate.name} if is_held else set()
+        else:
+            self.prove_in_room(crate, runs, checks)
+        try:
+            if runs and crate.is_program:
+                for ending in (BY_RATTLE, ""):
+                    run_program(crate, ending)
+            if runs and is_kept and crate.has_tests():
+                run_kept_tests(crate)
+        except Failed as failed:
+            if is_kept:
+                self.kept.drop(self.kept.at(crate.name, total))
+                raise Failed(f"{failed.why} (it was proved and built by an earlier run; the next one proves it again)", failed.said) from failed
+            raise
+        if self.kept and not is_kept and runs and checks:
+            self.kept.keep(crate, total, crate.name in self.held)
+
+    def is_whole(self, crate):
+        """Whether all that a proof of the crate makes stands in its out/."""
+        is_made = crate.is_program or crate.is_static or crate.name in self.used
+        made = [crate.made] * is_made + [crate.made + BY_RATTLE] * crate.is_program + [program_of_tests(crate)] * crate.has_tests()
+        return all(os.path.exists(f"{crate.folder}/{it}") for it in made)
+
+    def read_in_room(self, crate):
+        """Has the crate read, over the libraries below it, and not proved: it fails where it does not compile."""
+        total = sum_of("read", sum_of_crate(crate))
+        if self.kept and self.kept.has_passed(total):
+            self.as_kept.append(crate.name)
+            return
+        said = rt(fill_room(f"{self.rooms}/{crate.name}", crate), "check", *ONE_JOB, "--only", "")
+        shutil.rmtree(f"{self.rooms}/{crate.name}", ignore_errors=True)
+        if said.status or not READ.search(said.text):
+            raise Failed(f"it does not compile: status {said.status}", said.text)
+        self.progress.tell(f"{crate.name}: it compiles; it is not proved, {said.seconds:.0f} s")
+        if self.kept:
+            self.kept.note_passed(total)
+
+    def begun_in(self, crate):
+        """The crate in a room of its own, with the work that its proof begins with."""
+        begin = self.kept and self.kept.newest(crate) or self.begin_with and f"{self.begin_with}/crates/{crate.name}/out"
+        try:
+            return fill_room(f"{self.rooms}/{crate.name}", crate, begin)
+        except OSError as error:
+            self.progress.tell(f"{crate.name}: its proof begins with nothing: {error}")
+            return fill_room(f"{self.rooms}/{crate.name}", crate)
+
     def prove_in_room(self, crate, runs, checks):
-        folder = fill_room(f"{self.rooms}/{crate.name}", crate, self.begin_with and f"{self.begin_with}/crates/{crate.name}/out")
-        parts = {}
+        folder, parts = self.begun_in(crate), {}
         try:
             # (of tests alone nothing is left for a check, and `rt test` proves them)
             parts.update(self.prove_and_build(crate, folder, checks and not (runs and crate.has_tests_alone())))
@@ -100,25 +161,17 @@ class Proofs:
 
     def prove_and_build(self, crate, folder, checks):
         """Proves the crate if `checks`, and builds it if it is a library that is used. It returns what each command said, by its name."""
-        parts, is_built = {}, crate.is_static or crate.name in self.used
-        if checks and not (is_built and crate.name in self.searched):
-            parts["check"] = prove(crate, folder, self.handles)
-        if is_built:
+        parts = {"check": prove(crate, folder, self.handles)} if checks else {}
+        if crate.is_static or crate.name in self.used:
             parts["lib"] = build_library(crate, folder)
-        if checks and "check" not in parts:
-            if parts["lib"].last_line():
-                judge(parts["lib"], self.handles)
-            else:
-                # (a build says nothing if the library was there)
-                parts["check"] = prove(crate, folder, self.handles)
         return parts
 
-    def tell_times(self, of_wrong_turns):
-        """Tells the processor seconds of each part of the proofs, of all crates together, and of wrong turns."""
+    def tell_times(self, of_mutants):
+        """Tells the processor seconds of each part of the proofs, of all crates together, and of mutants."""
         used = collections.Counter()
         for part, said in (it for parts in self.parts.values() for it in parts.items()):
             used[part] += said.of_processors
-        used["wrong turns"] = of_wrong_turns
+        used["mutants"] = of_mutants
         self.progress.tell("of processors: " + ", ".join(f"{part} {seconds:.0f} s" for part, seconds in used.items()))
 
 
@@ -191,7 +244,7 @@ def run_program(crate, ending):
         env = {"PATH": "/usr/local/bin:/usr/bin:/bin", "HOME": f"{room}/data", "TMPDIR": f"{room}/data", "LANG": "C.UTF-8"}
         how = {"cwd": f"{room}/data", "env": env, "input": given_to(crate, "stdin"), "capture_output": True, "timeout": LIMIT}
         try:
-            ran = subprocess.run(words, check=False, **how)
+            ran = ended(words, **how)
         except subprocess.TimeoutExpired as error:
             raise Failed(f"its program, built by {by}, had not ended after {LIMIT} seconds") from error
     wanted = int(given_to(crate, "status").strip() or b"0")
@@ -201,6 +254,36 @@ def run_program(crate, ending):
         raise Failed(f"its program, built by {by}, ended with status {ran.returncode}, and not {wanted}", ran.stderr.decode(errors="replace"))
     if ran.stdout != given_to(crate, "stdout"):
         raise Failed(f"its program, built by {by}, wrote something else than crates/{crate.name}/stdout", difference(crate, ran.stdout))
+
+
+def ended(words, **how):
+    """Runs a program to its end. (One that was copied just now may be held open for a moment, by a command that another thread began meanwhile.)"""
+    until = time.monotonic() + 10
+    while True:
+        try:
+            return subprocess.run(words, check=False, **how)
+        except OSError as error:
+            if error.errno != errno.ETXTBSY or time.monotonic() > until:
+                raise
+        time.sleep(0.02)
+
+
+def program_of_tests(crate):
+    return f"out/{crate.name}_tests"
+
+
+def run_kept_tests(crate):
+    """Runs each of the crate's tests by the program that an earlier run built of them, at the top of the tree."""
+    program, how = f"{crate.folder}/{program_of_tests(crate)}", {"cwd": os.path.dirname(os.path.dirname(crate.folder)), "timeout": LIMIT_OF_TEST}
+    how |= {"stdin": subprocess.DEVNULL, "stdout": subprocess.PIPE, "stderr": subprocess.STDOUT, "errors": "replace"}
+    try:
+        names = re.findall(r"^(\S+): test$", ended([program, "--list"], **how).stdout, re.M)
+        ran = [(it, ended([program, it], **how)) for it in names]
+    except subprocess.TimeoutExpired as error:
+        raise Failed(f"its tests had not ended: {error}") from error
+    failed = [(name, it) for name, it in ran if it.returncode]
+    if failed or not ran:
+        raise Failed(f"{len(failed)} of its {len(ran)} tests did not pass: {failed[0][0] if failed else 'none was found'}", failed[0][1].stdout if failed else "")
 
 
 def difference(crate, wrote):

@@ -13,17 +13,19 @@ import failures
 import kit
 from command import noted, run
 from crates import crates_of, text_of
-from edits import edits_in, edits_of, folder_of
+from edits import edits_in
+from kept import Kept
 from lanes import processors, run_all
-from pictures import rendered
 from proofs import Proofs, handles_of
 from rooms import fill_room
 from telling import COUNTED, Step
 from trial import Trial
-from tried import note_tried, share_of, stands_on
+from verdicts import sum_of_mutant
 
 # The crate whose check tells the rate of a machine.
 RATED = "nt_core"
+# How the names of crates end that only measure: `./gate all` alone proves them.
+BENCH = "_bench"
 
 
 def counted(words, top, progress):
@@ -74,49 +76,58 @@ def each_file_is_laid_out(top, progress):
 def edits_apply(top, progress):
     """(Each edit is counted where it is tried.)"""
     found, bad = edits_in(top)
-    for crate in crates_of(top).values():
-        bad += [it.removeprefix(f"{top}/") for it in edits_of(crate, f"{crate.folder}/must-fail")[1]]
     for it in bad:
         progress.tell(it)
     return Step(0 if bad else 1, [it.partition(":")[0] for it in bad])
 
 
-def proofs_and_wrong_turns(top, tree, work, tries_each, tries_all, progress):
-    """Proves each crate once, runs tests and programs, and tries wrong turns of each crate over what its proof kept: in lanes that the proofs leave.
-    What the proofs made stands in the tree."""
+def chosen_of(found, kept, tries_all):
+    """The mutants that a run tries, by crate, with the sums under which their refusals are kept; and how many are taken as refused."""
+    standing = {crate: [(it, sum_of_mutant(it)) for it in edits if tries_all or not it.is_private] for crate, edits in found.items()}
+    left = {crate: {it: total for it, total in edits if not kept.has_passed(total)} for crate, edits in standing.items()}
+    return {crate: edits for crate, edits in left.items() if edits}, sum(map(len, standing.values())) - sum(map(len, left.values()))
+
+
+def proofs_and_mutants(tree, work, is_all, progress):
+    """Proves each crate once, runs tests and programs, and tries mutants of each crate over what its proof kept: in lanes that the proofs leave.
+    What the proofs made stands in the tree. With `is_all` nothing is taken that earlier runs kept, and what is dear is tried too."""
     # (what cannot be applied was told, and counted, by a step before)
-    found, bad = edits_in(tree)
-    chosen = found if tries_each else share_of(tree, found)
+    found, kept = edits_in(tree)[0], Kept(progress.tell, takes=not is_all)
+    chosen, as_refused = chosen_of(found, kept, is_all)
     many = sum(map(len, chosen.values()))
-    # (a crate whose edits are not tried is as it was when all were, and its contracts were searched)
-    proofs = Proofs(crates_of(tree), work, progress, handles_of(tree), searched={it.name for it in found if it not in chosen})
-    progress.tell(f"{many} of {sum(map(len, found.values()))} wrong turns are tried")
-    trials = [Trial(crate, edits, work, progress, proofs.held) for crate, edits in chosen.items()]
+    crates = crates_of(tree)
+    only_read = [] if is_all else [it for it in crates if it.endswith(BENCH)]
+    proofs = Proofs(crates, work, progress, handles_of(tree), kept, tried={it.name for it in chosen}, only_read=only_read)
+    progress.tell(f"{many} mutants are tried, and of {as_refused} the refusals were kept by earlier runs")
+    kept.bound()
+    trials = [Trial(crate, list(edits), work, progress, proofs.held, edits, kept) for crate, edits in chosen.items()]
     tasks = proofs.tasks(list(proofs.crates))
     for it in trials:
         tasks.update(it.tasks(after=[it.crate.name]))
     progress.of, progress.total = "crates and checks", len(tasks) - len(trials)
     run_all(tasks)
-    tell_costs(proofs, trials, work, progress)
-    failed, left_out = [name for it in trials for name in it.failed], [name for it in trials for name in it.left_out]
-    if tries_all and not proofs.failed:
-        not_tried = {name.split("/")[-2] for name in [*failed, *(it.partition(":")[0] for it in bad)]}
-        sums = {it.name: stands_on(it, folder_of(tree, it.name)) for it in found if it.name not in not_tried}
-        note_tried(top, sums, crates_of(tree))
-    passed = len(proofs.passed) + many - len(failed) - len(left_out)
+    kept.bound()
+    tell_costs(proofs, trials, as_refused, progress)
+    tell_rate(proofs, work, progress)
+    failed = [name for it in trials for name in [*it.failed, *it.untold()]]
+    passed = len(proofs.passed) + as_refused + sum(len(it.refused) for it in trials)
     return Step(passed, [*proofs.failed, *failed], is_made=not proofs.failed)
 
 
-def tell_costs(proofs, trials, work, progress):
-    """Tells what was proved and tried, the processor seconds of each part, and the rate of the machine."""
-    refused, left_out = sum(len(it.edits) - len(it.failed) - len(it.left_out) for it in trials), sum(len(it.left_out) for it in trials)
+def tell_costs(proofs, trials, as_refused, progress):
+    """Tells what was proved and tried, and the processor seconds of each part."""
+    refused, left_out = sum(len(it.refused) for it in trials), sum(len(it.left_out) for it in trials)
     rest = f"; {left_out} of crates that are not proved were left out" if left_out else ""
-    progress.tell(f"{len(proofs.passed)} crates were proved, and {refused} wrong turns refused{rest}")
+    progress.tell(f"{len(proofs.as_kept)} of {len(proofs.crates)} crates were taken as earlier runs kept them, and {as_refused} refusals of mutants")
+    progress.tell(f"{len(proofs.parts)} crates were proved, and {refused} mutants refused{rest}")
     progress.tell(f"{proofs.checked} modules were checked in this run, and {proofs.taken} taken from work that checks on this machine had kept")
     proofs.tell_times(sum(it.used for it in trials))
-    rated = next((it for it in proofs.crates.values() if it.name == RATED and it.name in proofs.passed), None)
-    if rated:
-        seconds = Trial(rated, [], work, progress).check({}).seconds
+
+
+def tell_rate(proofs, work, progress):
+    """Tells the rate of the machine, if this run proved the crate that tells it."""
+    if RATED in proofs.parts and RATED in proofs.passed:
+        seconds = Trial(proofs.crates[RATED], [], work, progress).check({}).seconds
         progress.tell(f"{RATED}, with nothing to do and nothing beside it: checked, {seconds:.0f} s")
 
 
@@ -160,17 +171,18 @@ def example(top, script, words, ending, statuses):
 
 
 def drawn(top, script, picture):
-    """Whether this picture is what `ntlook timeline` draws of the script, and what is told where it isn't."""
+    """What is told where this picture is not what `ntlook timeline` draws of the script."""
     with tempfile.TemporaryDirectory() as folder:
         words = ["./ntlook", "timeline", script, "--svg", f"{folder}/drawn.svg"]
         ran = subprocess.run(words, cwd=top, check=False, stdin=subprocess.DEVNULL, capture_output=True, errors="backslashreplace")
-        same = not ran.returncode and filecmp.cmp(f"{folder}/drawn.svg", f"{top}/{picture}", shallow=False)
-    return same, [] if same else [f"{picture}: not what ./ntlook timeline {script} --svg {picture} draws", *ran.stderr.splitlines()]
+        if not ran.returncode and filecmp.cmp(f"{folder}/drawn.svg", f"{top}/{picture}", shallow=False):
+            return []
+    return [f"{picture}: not what ./ntlook timeline {script} --svg {picture} draws", *ran.stderr.splitlines()]
 
 
 def examples(top, progress):
-    """What the launchers write of each example is the file beside it. Not each has a file of why its threads wait, a timeline, or orders. A picture of the docs
-    is what `ntlook timeline` draws, and a browser draws it."""
+    """What the launchers write of each example is the file beside it. Not each has a file of why its threads wait, a timeline, or orders. A picture of
+    the docs is what `ntlook timeline` draws."""
     passed, failed = 0, []
     runs = [(script, *how) for script in sorted(glob.glob(f"{top}/examples/*.nts")) for how in ON_EXAMPLES if is_there(script, how[1])]
     with ThreadPoolExecutor(processors()) as pool:
@@ -179,10 +191,10 @@ def examples(top, progress):
                 progress.tell(it.replace(f"{top}/", ""))
             passed, failed = passed + (not told), failed + [os.path.relpath(script, top)] * bool(told)
     for script, picture in PICTURES:
-        for same, told in (drawn(top, script, picture), rendered(f"{top}/{picture}")):
-            for it in told:
-                progress.tell(it.replace(f"{top}/", ""))
-            passed, failed = passed + bool(same), failed + [picture] * (same is False)
+        told = drawn(top, script, picture)
+        for it in told:
+            progress.tell(it)
+        passed, failed = passed + (not told), failed + [picture] * bool(told)
     return Step(passed, failed)
 
 
@@ -191,14 +203,26 @@ def command(top, *words):
     return functools.partial(counted, list(words), top)
 
 
+def languages(top, tell):
+    """The tests of what is made for other languages, over the library for C as it was built last. One whose language is lacking is told, and left out."""
+    found = []
+    for name, test in (("the package for Python", "python/test"), ("the crates for Rust", "rust/test")):
+        said = run([f"{top}/{test}", "--lacks"], top)
+        if said.status:
+            tell(f"gate: {name}: not tried: {said.text.strip()}")
+        else:
+            found.append((name, command(top, test), False))
+    return found
+
+
 def before_proofs(top):
     return [
         ("no conflict markers", functools.partial(no_conflict_markers, top), False),
         ("each file is laid out", functools.partial(each_file_is_laid_out, top), False),
         ("docs/MODEL.md names each definition", command(top, "docs/check_model"), False),
         ("the names of the docs", command(top, "docs/check_names"), False),
-        ("each wrong turn applies", functools.partial(edits_apply, top), False),
-        ("each public function has a wrong turn", command(top, "wrong_turns/run", "--reached"), False),
+        ("each mutant applies", functools.partial(edits_apply, top), False),
+        ("each public function has a mutant", command(top, "mutants/run", "--reached"), False),
     ]
 
 
@@ -212,11 +236,11 @@ def unproved(top):
     ]
 
 
-def proved(top, tree, work, tries_each, tries_all):
-    """The steps with proofs: with each wrong turn, or a share; with every case and planted fault of C, or some."""
+def proved(tree, work, is_all):
+    """The steps with proofs: over what earlier runs kept, or from nothing with each mutant, case and planted fault of C."""
     scripts = [os.path.relpath(it, tree) for it in sorted(glob.glob(f"{tree}/examples/*.nts") + glob.glob(f"{tree}/tests/scripts/*/*.nts"))]
     return [
-        ("proofs, tests, programs and wrong turns", functools.partial(proofs_and_wrong_turns, top, tree, work, tries_each, tries_all), True),
+        ("proofs, tests, programs and mutants", functools.partial(proofs_and_mutants, tree, work, is_all), True),
         ("the tests, each growth refused", command(tree, "tests/growths/tests"), False),
         ("object numbers and handles", command(tree, "tests/types"), False),
         ("what closed objects leave", command(tree, "tests/memory"), False),
@@ -225,6 +249,6 @@ def proved(top, tree, work, tries_each, tries_all):
         ("the programs of docs/EMBEDDING.md, each growth refused", command(tree, "tests/growths/example"), False),
         ("the examples", functools.partial(examples, tree), False),
         ("the launcher, and the worked scripts", command(tree, "tests/launcher"), False),
-        ("random scripts and lives, a second way", command(tree, "tests/compare", *["--all"] * tries_all), False),
-        ("the library for C programs", command(tree, "make", "--no-print-directory", "-C", "c", "check", "ALL=1" if tries_all else "STRICT=1"), False),
+        ("random scripts and lives, a second way", command(tree, "tests/compare", *["--all"] * is_all), False),
+        ("the library for C programs", command(tree, "make", "--no-print-directory", "-C", "c", "check", "ALL=1" if is_all else "STRICT=1"), False),
     ]

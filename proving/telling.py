@@ -9,6 +9,7 @@ import time
 
 from command import processor_seconds
 from crates import text_of
+from kept import cache_folder
 from progress import Progress
 
 # A tool that a step runs, and the Debian package that has it.
@@ -16,6 +17,8 @@ TOOLS = {"git": "git", "make": "make", "diff": "diffutils", "gcc": "gcc", "g++":
 # A sanitizer, what it wants of a compiler, and the Debian package of each compiler that has its library.
 SANITIZERS = {"ThreadSanitizer": "thread", "AddressSanitizer and UndefinedBehaviorSanitizer": "address,undefined"}
 HAS_LIBRARIES = {"gcc": "libtsan2 and libasan8, which gcc brings", "clang": "libclang-rt-dev"}
+# The least that steps have to count, one a line: `STEP: NUMBER`.
+LEAST = "proving/least"
 COUNTED = re.compile(r"^(\d+) passed, (\d+) failed$")
 
 
@@ -39,7 +42,7 @@ class Gate:
         self.last_times, self.times = times_on(self.file_of_times()), {}
 
     def file_of_times(self):
-        return f"{os.environ.get('XDG_CACHE_HOME') or os.path.expanduser('~/.cache')}/kawhopune/gate-times.json"
+        return f"{cache_folder()}/gate-times.json"
 
     def tell(self, text):
         self.progress.tell(text)
@@ -56,6 +59,10 @@ class Gate:
         found = re.search(rf"^\| {re.escape(name)} \| ([\d,]+) s ", text_of(f"{self.top}/docs/GATE.md"), re.M)
         return f", by docs/GATE.md {found[1]} s" if found else ""
 
+    def least(self, name):
+        found = re.search(rf"^{re.escape(name)}: (\d+)$", text_of(f"{self.top}/{LEAST}"), re.M)
+        return int(found[1]) if found else 1
+
     def step(self, name, call):
         """Runs a step, which gives a Step, and returns whether it made what later steps run."""
         self.number += 1
@@ -68,6 +75,8 @@ class Gate:
                 found = call(self.progress)
             except (OSError, ValueError, LookupError, subprocess.SubprocessError) as error:
                 found = Step(0, [f"it could not go on: {type(error).__name__}: {error}"])
+        if not found.failed and found.passed < self.least(name):
+            found = Step(found.passed, [f"it counted {found.passed}, and {LEAST} wants {self.least(name)}"], is_made=found.is_made)
         took = time.monotonic() - begun
         self.passed, self.many = self.passed + found.passed, self.many + found.many
         self.failed += [f"{name}: {it}" for it in found.failed]

@@ -52,16 +52,16 @@ class Scratch:
             write(path, text.encode("ascii"))
         os.chmod(self.rt, 0o755)
 
-    def started(self, *words, **environment):
-        """A run of the launcher."""
+    def started(self, *words, who="ntrun", **environment):
+        """A run of a launcher."""
         path = f"{os.path.dirname(self.rt)}:{os.environ['PATH']}"
         how = {"env": {**os.environ, "PATH": path, **environment}, "stdout": subprocess.PIPE, "stderr": subprocess.PIPE}
-        return subprocess.Popen([f"{self.folder}/ntrun", *words], cwd=self.folder, **how)
+        return subprocess.Popen([f"{self.folder}/{who}", *words], cwd=self.folder, **how)
 
-    def runs(self, *words):
+    def runs(self, *words, who="ntrun"):
         """The exit status, what was written, and what the kit was asked for by this run."""
         before = self.asked()
-        ran = self.started(*words)
+        ran = self.started(*words, who=who)
         written = ran.communicate(timeout=60)[0].decode()
         return ran.returncode, written, self.asked()[len(before) :]
 

@@ -1,3 +1,4 @@
+/* SPDX-License-Identifier: MIT OR Apache-2.0 */
 /* ---- Handles. The two lowest bits are the program's own. Above them stand the number of the dispatcher's handle, in 16 bits, and how often it was
  * given to the program, in 14. So a handle that was closed is refused, though its number was given again, until it was given 16,382 times more.
  * Threads' own handles are given to nobody. */

@@ -1,3 +1,4 @@
+/* SPDX-License-Identifier: MIT OR Apache-2.0 */
 /* What always holds of `waiting` (inside.h), for the tests: whenever the lock is given back. */
 
 static void holds(bool it, const char *what)

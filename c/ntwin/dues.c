@@ -1,3 +1,4 @@
+/* SPDX-License-Identifier: MIT OR Apache-2.0 */
 /* ---- When timers are due for a thread. It wakes for those by itself: for the timers that its wait names as they stand when it begins, and, where
  * its wait is alertable, for those that it has set with a routine. Nobody else can bring the latter forward, so it minds them alone: nobody
  * has to tell it of them, and it wakes for nobody else's. It minds a few; a thread that sets more of them at once is a watcher. */

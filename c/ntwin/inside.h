@@ -1,3 +1,4 @@
+/* SPDX-License-Identifier: MIT OR Apache-2.0 */
 /* What the parts of ntwin.c share: a thread's seat, and all that is kept, with what always holds of it. */
 #ifndef NTWIN_INSIDE_H
 #define NTWIN_INSIDE_H
@@ -8,6 +9,14 @@
 #include "../win/process.h"
 #include "script_words.h"
 
+/* (The calls themselves, and not what a program makes of them by win/counts.h.) */
+#undef CreateSemaphoreA
+#undef CreateSemaphoreW
+#undef CreateSemaphoreExA
+#undef CreateSemaphoreExW
+#undef ReleaseSemaphore
+
+#include <dlfcn.h>
 #include <errno.h>
 #include <fcntl.h>
 #include <limits.h>

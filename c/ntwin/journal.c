@@ -1,3 +1,4 @@
+/* SPDX-License-Identifier: MIT OR Apache-2.0 */
 /* ---- The journal of a run: each call of the dispatcher, each tick and each name, as a line of a script (docs/SCRIPTS.md). It is a file that is
  * mapped, so a line stays there however the process ends. What is not written yet are blank lines. All of this is under the lock. */
 

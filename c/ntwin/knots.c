@@ -1,3 +1,4 @@
+/* SPDX-License-Identifier: MIT OR Apache-2.0 */
 /* ---- Which threads hold each other, as the dispatcher tells it (nt_why), under the lock. */
 
 static bool tells_knots; /* written before main */

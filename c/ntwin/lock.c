@@ -1,3 +1,4 @@
+/* SPDX-License-Identifier: MIT OR Apache-2.0 */
 /* ---- The lock, and the thread that it favours, which takes it by a plain store and a load.
  *
  * `waiting.lock` is FREE, TAKEN, WANTED (taken, and threads may sleep on it), or FAVOURS + n. The thread of seat n says by `inside`, which nobody else

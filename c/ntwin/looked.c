@@ -1,3 +1,4 @@
+/* SPDX-License-Identifier: MIT OR Apache-2.0 */
 /* ---- The calls of the dispatcher, by pointers: so that they cost nothing more where nobody looks at them, and are looked at where the environment
  * asks for that (looking.c). Each is then written to the journal, and may have tied a knot. */
 

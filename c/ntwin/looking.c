@@ -1,3 +1,4 @@
+/* SPDX-License-Identifier: MIT OR Apache-2.0 */
 /* ---- What tells why threads wait: the program, by ntwin_why, and what the environment asks for, before main.
  *
  * NTWIN_WHY=signal   at SIGQUIT, on standard error

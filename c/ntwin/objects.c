@@ -1,3 +1,4 @@
+/* SPDX-License-Identifier: MIT OR Apache-2.0 */
 /* ---- Events. */
 
 static HANDLE create_event(struct given_name name, DWORD flags, DWORD access)

@@ -1,3 +1,4 @@
+/* SPDX-License-Identifier: MIT OR Apache-2.0 */
 /* ---- Threads and the process. */
 
 /* The id of the thread of CreateThread that has this seat. */

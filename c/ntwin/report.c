@@ -1,3 +1,4 @@
+/* SPDX-License-Identifier: MIT OR Apache-2.0 */
 /* ---- A text that is made under a lock: in memory of its own, since a stream has locks that who waits for that one may hold. */
 
 struct report {

@@ -1,3 +1,4 @@
+/* SPDX-License-Identifier: MIT OR Apache-2.0 */
 /* The words of scripts (docs/SCRIPTS.md). Journals are written with them, and the players of scripts in c/tests read them. docs/check_names compares
    them with the grammar's. */
 #ifndef NTWIN_SCRIPT_WORDS_H

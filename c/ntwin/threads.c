@@ -1,3 +1,4 @@
+/* SPDX-License-Identifier: MIT OR Apache-2.0 */
 /* ---- Threads come and go. */
 
 /* The number names this thread. */
@@ -186,12 +187,15 @@ static void leave_last(void *round)
         leave(own.seat);
 }
 
+static void forget_other_threads(DWORD caller);
+
 /* A child is forked, and this is its only thread. If others had seats or were in a call, none of them is here to end what it began: the
  * child then has no seat any more, and gets none. */
 static void note_fork(void)
 {
     const bool is_opening = pthread_mutex_trylock(&process.opening) != 0;
     stop_looking();
+    forget_other_threads(own.id);
     own.id = 0;
     process.lost = waiting.left;
     waiting.left = NULL;
@@ -202,11 +206,28 @@ static void note_fork(void)
         return;
     process.is_forked = true;
     own.seat = NULL;
+    own.port = NULL;
+    own.rests = false;
+}
+
+/* Where the library is part of a plugin, that stays in memory when it is closed: threads that called have yet to leave. (As it is loaded, since who
+ * loads it has the loader's lock then. Later another thread may have that, and wait for the one that calls here.) */
+static void stay_in_memory(void)
+{
+    static const char here;
+    Dl_info info;
+    void *map = NULL;
+    if (dladdr1(&here, &info, &map, RTLD_DL_LINKMAP) == 0 || map == NULL)
+        return;
+    const char *name = ((const struct link_map *)map)->l_name;
+    if (name[0] != 0)
+        dlopen(name, RTLD_LAZY | RTLD_NOLOAD | RTLD_NODELETE);
 }
 
 /* (Before the program's own constructors, which may fork, and before the thread is there that takes SIGQUIT.) */
 __attribute__((constructor(101))) static void begin_process(void)
 {
+    stay_in_memory();
     process.looks = sysconf(_SC_NPROCESSORS_ONLN) > 1;
     ask_for_barriers();
     pthread_atfork(rest_from_telling, go_on_telling, note_fork);
@@ -294,12 +315,27 @@ static void join_those_who_are_gone(struct seat *caller)
     give_lock_for(caller);
 }
 
+/* Joins a thread that is gone by this moment of the monotonic clock. Answers whether it is. (pthread_timedjoin_np goes by a clock that may be set, and
+ * no sanitizer knows pthread_clockjoin_np.) */
+static bool join_until(pthread_t thread, uint64_t moment)
+{
+    _Atomic uint32_t nothing = 0;
+    while (pthread_tryjoin_np(thread, NULL) == EBUSY) {
+        const uint64_t now = monotonic();
+        const struct timespec next = in_timespec(now + MOMENTS_PER_SECOND / 1000);
+        if (now >= moment)
+            return false;
+        sleep_on(&nothing, 0, &next);
+    }
+    return true;
+}
+
 /* At the end of the process, though not in a child that was forked: gives those who have left, and have nothing to do but to be gone, two
  * seconds at the most for it. It takes the lock where it can: who ends the process may have been interrupted while it had it. Threads that
  * still run may still call. */
 __attribute__((destructor)) static void end_process(void)
 {
-    const struct timespec until = { .tv_sec = time(NULL) + 2 };
+    const uint64_t until = monotonic() + 2 * (uint64_t)MOMENTS_PER_SECOND;
     if (process.id != getpid())
         return;
     while (take_lock_at_last()) {
@@ -307,8 +343,9 @@ __attribute__((destructor)) static void end_process(void)
         if (runner != NULL)
             waiting.left = runner->next;
         give_lock();
-        if (runner == NULL || pthread_timedjoin_np(runner->thread, NULL, &until) == ETIMEDOUT)
-            return;
+        const bool is_joined = runner != NULL && join_until(runner->thread, until);
         free(runner);
+        if (!is_joined)
+            return;
     }
 }

@@ -1,3 +1,4 @@
+/* SPDX-License-Identifier: MIT OR Apache-2.0 */
 /* ---- Errors. */
 
 static DWORD error_of(uint32_t refused)

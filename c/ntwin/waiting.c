@@ -1,3 +1,4 @@
+/* SPDX-License-Identifier: MIT OR Apache-2.0 */
 /* ---- Those whose waits pend. Each sleeps to its own deadline, and then lets time pass, so that no timeout waits for another thread to
  * run. Those whose waits a timer may end are the watchers. To which moment each sleeps the dispatcher tells (nt_pend), and also whom to
  * call if nobody sleeps short enough for the watchers (nt_told). While there is no watcher nobody can see that a timer is overdue, but by a

@@ -1,3 +1,4 @@
+/* SPDX-License-Identifier: MIT OR Apache-2.0 */
 /* ---- APCs. */
 
 DWORD QueueUserAPC(PAPCFUNC routine, HANDLE thread, ULONG_PTR argument)

@@ -1,3 +1,4 @@
+/* SPDX-License-Identifier: MIT OR Apache-2.0 */
 /* ---- Why threads wait, as a text. It is made under the lock. A place in the program stands in it as a number between two marks until the lock is
  * given back: which file that is the loader tells, which has a lock of its own. */
 

@@ -1,3 +1,4 @@
+/* SPDX-License-Identifier: MIT OR Apache-2.0 */
 /* ---- What a program's ThreadSanitizer is told, where it has one (ntwin.c need not be compiled for it), or its helgrind: that what was done
  * before one thread gave the lock back, or told another of its grant, came before what is done after. */
 
@@ -40,12 +41,19 @@ static inline bool has_sanitizer(void)
 
 /* ---- Words that threads sleep on. */
 
-/* Sleeps while the word is `seen`, to this time of the monotonic clock at the longest where one is given. It may return sooner. */
-static void sleep_on(_Atomic uint32_t *word, uint32_t seen, const struct timespec *until)
+/* Sleeps while the word is `seen`, to this time of the monotonic clock at the longest where one is given, among the sleepers of these bits. It may
+ * return sooner. */
+static void sleep_among(_Atomic uint32_t *word, uint32_t seen, const struct timespec *until, uint32_t bits)
 {
     const int error = errno;
-    syscall(SYS_futex, word, FUTEX_WAIT_BITSET_PRIVATE, seen, until, NULL, FUTEX_BITSET_MATCH_ANY);
+    syscall(SYS_futex, word, FUTEX_WAIT_BITSET_PRIVATE, seen, until, NULL, bits);
     errno = error;
+}
+
+/* The same among all. */
+static void sleep_on(_Atomic uint32_t *word, uint32_t seen, const struct timespec *until)
+{
+    sleep_among(word, seen, until, FUTEX_BITSET_MATCH_ANY);
 }
 
 /* Wakes one thread that sleeps on the word. */

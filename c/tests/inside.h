@@ -25,10 +25,11 @@ static uint32_t hear_told(uint32_t refused, const struct nt_told *told);
 #define nt_told(nt, index, told) hear_told(nt_told(nt, index, told), told)
 
 static int read_clock(struct timespec *at);
-static long use_system(long number, void *word, int operation, uint32_t value);
+static long use_system(long number, void *word, int operation, uint32_t value, uint32_t bits);
 
 #define clock_gettime(clock, at) read_clock(at)
-#define syscall(number, word, operation, value, until, other, bits) ((void)(until), use_system(number, (void *)(uintptr_t)(word), operation, value))
+#define syscall(number, word, operation, value, until, other, bits) \
+    ((void)(until), use_system(number, (void *)(uintptr_t)(word), operation, value, bits))
 
 #include "../ntwin.c"
 
@@ -46,9 +47,9 @@ static int read_clock(struct timespec *at)
 }
 
 /* Who sleeps to a moment that is still to come sleeps until it is woken: `tick` does that. */
-static long use_system(long number, void *word, int operation, uint32_t value)
+static long use_system(long number, void *word, int operation, uint32_t value, uint32_t bits)
 {
-    return (syscall)(number, word, operation, value, NULL, NULL, FUTEX_BITSET_MATCH_ANY);
+    return (syscall)(number, word, operation, value, NULL, NULL, bits);
 }
 
 /* Whether this thread sleeps to a moment that has come, or was called and has not looked yet. */

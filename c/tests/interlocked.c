@@ -71,7 +71,7 @@ static void counts(void)
     IN_EACH_ORDER(LONG64, INT64_MIN, INT64_MAX, 64);
     IN_EACH_ORDER(SHORT, INT16_MIN, INT16_MAX, 16);
     IN_EACH_ORDER(CHAR, INT8_MIN, INT8_MAX, 8);
-    /* A `long` in the place of a LONG is changed as a whole. */
+    /* A `long` is changed as a whole (longs.c). */
     COUNTS(long, INT64_MIN, INT64_MAX, InterlockedIncrement, InterlockedDecrement, InterlockedAdd, InterlockedExchangeAdd,
            InterlockedExchangeSubtract, InterlockedExchange, InterlockedCompareExchange);
 }

@@ -25,6 +25,14 @@ static void processors(void)
     ANSWERS(SetThreadAffinityMask(thread, one), mask, UNTOUCHED);
     ANSWERS(SetThreadAffinityMask(thread, mask), one, UNTOUCHED);
     ANSWERS(SetThreadAffinityMask(thread, 0), 0, ERROR_INVALID_PARAMETER);
+    ANSWERS(SetThreadAffinityMask(thread, one), mask, UNTOUCHED);
+    /* (All bits are all processors, whichever there are; for a group they are not.) */
+    ANSWERS(SetThreadAffinityMask(thread, ~(DWORD_PTR)0), one, UNTOUCHED);
+    ANSWERS(SetThreadAffinityMask(thread, mask), mask, UNTOUCHED);
+    if (system != ~(DWORD_PTR)0) {
+        now.Mask = ~(DWORD_PTR)0;
+        ANSWERS(SetThreadGroupAffinity(thread, &now, NULL), FALSE, ERROR_INVALID_PARAMETER);
+    }
     ANSWERS(SetThreadAffinityMask(event, mask), 0, ERROR_INVALID_HANDLE);
     ANSWERS(GetProcessAffinityMask(GetCurrentProcess(), &system, &system), TRUE, UNTOUCHED);
     ANSWERS(SetProcessAffinityMask(GetCurrentProcess(), one), TRUE, UNTOUCHED);

@@ -64,6 +64,36 @@ static void texts(void)
     IS(strcmp(buffer, "as it is %1"), 0);
 }
 
+/* What stands for no insert means the same with or without inserts: %0 ends the text. */
+static void escapes(void)
+{
+    enum { OWN = FORMAT_MESSAGE_FROM_STRING | FORMAT_MESSAGE_IGNORE_INSERTS };
+    char buffer[200];
+    ANSWERS(FormatMessage(OWN, "one%0 two", 0, 0, buffer, 200, NULL), 3, UNTOUCHED);
+    IS(strcmp(buffer, "one"), 0);
+    ANSWERS(FormatMessage(OWN, "%0", 0, 0, buffer, 200, NULL), 0, UNTOUCHED);
+    ANSWERS(FormatMessage(OWN, "one%ntwo", 0, 0, buffer, 200, NULL), 8, UNTOUCHED);
+    IS(strcmp(buffer, "one\r\ntwo"), 0);
+    ANSWERS(FormatMessage(OWN, "one%ntwo", 0, 0, buffer, 8, NULL), 0, ERROR_INSUFFICIENT_BUFFER);
+    ANSWERS(FormatMessage(OWN, "%r%t%b.", 0, 0, buffer, 200, NULL), 4, UNTOUCHED);
+    IS(strcmp(buffer, "\r\t ."), 0);
+    ANSWERS(FormatMessage(OWN, "%1!s! %99 %2", 0, 0, buffer, 200, NULL), 12, UNTOUCHED);
+    IS(strcmp(buffer, "%1!s! %99 %2"), 0);
+}
+
+static void places_of_messages(void)
+{
+    const DWORD made = SYSTEM | FORMAT_MESSAGE_ALLOCATE_BUFFER;
+    LPSTR text = (LPSTR)(uintptr_t)1;
+    ANSWERS(FormatMessageA(made, NULL, 5, 0, NULL, 0, NULL), 0, ERROR_NOT_ENOUGH_MEMORY);
+    ANSWERS(FormatMessageW(made, NULL, 5, 0, NULL, 0, NULL), 0, ERROR_NOT_ENOUGH_MEMORY);
+    ANSWERS(FormatMessageA(SYSTEM, NULL, 5, 0, NULL, 0, NULL), 0, ERROR_INSUFFICIENT_BUFFER);
+    ANSWERS(FormatMessageW(SYSTEM, NULL, 5, 0, NULL, 0, NULL), 0, ERROR_INSUFFICIENT_BUFFER);
+    ANSWERS(FormatMessageA(made, NULL, 0x0BADBAD, 0, (LPSTR)(void *)&text, 0, NULL), 0, ERROR_MR_MID_NOT_FOUND);
+    IS(text == NULL, 1);
+    ANSWERS(FormatMessageW(FORMAT_MESSAGE_FROM_STRING | FORMAT_MESSAGE_IGNORE_INSERTS, L"own", 0, 0, NULL, 0, NULL), 0, ERROR_NOT_SUPPORTED);
+}
+
 typedef DWORD(WINAPI *get_error)(void);
 typedef void(WINAPI *set_error)(DWORD);
 
@@ -225,6 +255,8 @@ static void waits_with_messages(void)
 int main(void)
 {
     texts();
+    escapes();
+    places_of_messages();
     modules();
     libraries();
     held_modules();

@@ -24,6 +24,65 @@ static BOOL CALLBACK make(PINIT_ONCE once, PVOID parameter, PVOID *context)
     return TRUE;
 }
 
+/* It has a context with a bit that is not its own, for the first so many times. */
+static BOOL CALLBACK make_badly(PINIT_ONCE once, PVOID parameter, PVOID *context)
+{
+    (void)once;
+    CALLS++;
+    *context = parameter;
+    if (FAILURES_LEFT > 0) {
+        FAILURES_LEFT--;
+        *context = (char *)parameter + 1 + FAILURES_LEFT % 3;
+    }
+    return TRUE;
+}
+
+/* It finds what the caller has in its context, and where. */
+static BOOL CALLBACK make_of_context(PINIT_ONCE once, PVOID parameter, PVOID *context)
+{
+    (void)once;
+    IS((ULONG_PTR)context, (ULONG_PTR)parameter);
+    IS((ULONG_PTR)*context, 40);
+    *context = (PVOID)((ULONG_PTR)*context + 8);
+    return TRUE;
+}
+
+static void *execute_badly(void *once)
+{
+    LPVOID context = NULL;
+    while (!InitOnceExecuteOnce(once, make_badly, &MADE, &context))
+        must(GetLastError() == ERROR_INVALID_PARAMETER);
+    must(context == &MADE);
+    return NULL;
+}
+
+/* What a callback makes is refused where it is no context, and the next tries; a callback finds the caller's context. */
+static void contexts(void)
+{
+    INIT_ONCE once = INIT_ONCE_STATIC_INIT;
+    LPVOID context = NULL;
+    FAILURES_LEFT = 2;
+    CALLS = 0;
+    ANSWERS(InitOnceExecuteOnce(&once, make_badly, &MADE, &context), FALSE, ERROR_INVALID_PARAMETER);
+    ANSWERS(InitOnceExecuteOnce(&once, make_badly, &MADE, NULL), FALSE, ERROR_INVALID_PARAMETER);
+    ANSWERS(InitOnceExecuteOnce(&once, make_badly, &MADE, &context), TRUE, UNTOUCHED);
+    IS((ULONG_PTR)context, (ULONG_PTR)&MADE);
+    IS(CALLS, 3);
+    InitOnceInitialize(&once);
+    context = (LPVOID)40;
+    ANSWERS(InitOnceExecuteOnce(&once, make_of_context, &context, &context), TRUE, UNTOUCHED);
+    IS((ULONG_PTR)context, 48);
+    ANSWERS(InitOnceExecuteOnce(&once, make_of_context, NULL, NULL), TRUE, UNTOUCHED);
+    /* By many threads. */
+    InitOnceInitialize(&once);
+    FAILURES_LEFT = 9;
+    CALLS = 0;
+    for (int i = 0; i < THREADS; i++)
+        start(execute_badly, &once);
+    join_all();
+    IS(CALLS, 10);
+}
+
 static INIT_ONCE ONCE = INIT_ONCE_STATIC_INIT;
 
 static void *execute_once(void *none)
@@ -95,6 +154,24 @@ static SYNCHRONIZATION_BARRIER BARRIER;
 static LONG COME[ROUNDS], LAST;
 static DWORD HOW;
 
+static void *come_late(void *ms)
+{
+    Sleep((DWORD)(ULONG_PTR)ms);
+    EnterSynchronizationBarrier(&BARRIER, SYNCHRONIZATION_BARRIER_FLAGS_BLOCK_ONLY);
+    return NULL;
+}
+
+/* Who deletes a barrier waits until all have left it. */
+static void deleted_barrier(void)
+{
+    must(InitializeSynchronizationBarrier(&BARRIER, 2, 0));
+    start(come_late, NULL);
+    start(come_late, (void *)20);
+    Sleep(5);
+    ANSWERS(DeleteSynchronizationBarrier(&BARRIER), TRUE, UNTOUCHED);
+    join_all();
+}
+
 static void *come_to_barrier(void *none)
 {
     (void)none;
@@ -133,6 +210,8 @@ static void barriers(void)
 int main(void)
 {
     one_time_initialization();
+    contexts();
     barriers();
+    deleted_barrier();
     return counted();
 }

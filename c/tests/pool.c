@@ -120,12 +120,67 @@ static void ends_of_registered_waits(void)
     ANSWERS(RegisterWaitForSingleObject(&wait, EVENT, NULL, NULL, 0, 0), FALSE, ERROR_INVALID_PARAMETER);
 }
 
+/* ---- Registered waits that are stopped: what is signaled after that stays so. */
+
+static HANDLE OWN_WAIT;
+
+/* Unregisters the wait that it is called for, and waits alertably; or, once that is done, stays. */
+static void CALLBACK stop_itself(PVOID steps, BOOLEAN timed_out)
+{
+    (void)timed_out;
+    ANSWERS(UnregisterWait(OWN_WAIT), FALSE, ERROR_IO_PENDING);
+    IS(SleepEx(1, TRUE), 0);
+    InterlockedIncrement(steps);
+}
+
+static void stopped_waits(void)
+{
+    HANDLE wait = NULL, automatic = CreateEvent(NULL, FALSE, FALSE, NULL);
+    LONG steps = 0;
+    /* Stopped while its thread is busy. */
+    ResetEvent(GO);
+    SetEvent(automatic);
+    must(RegisterWaitForSingleObject(&wait, automatic, stay, &steps, INFINITE, WT_EXECUTEINWAITTHREAD));
+    IS(settled(&steps, 1), 1);
+    ANSWERS(UnregisterWaitEx(wait, DONE), FALSE, ERROR_IO_PENDING);
+    SetEvent(automatic);
+    SetEvent(GO);
+    IS(WaitForSingleObject(DONE, INFINITE), WAIT_OBJECT_0);
+    IS(later(&steps), 2);
+    IS(WaitForSingleObject(automatic, 0), WAIT_OBJECT_0);
+    /* Stopped by its own callback. */
+    steps = 0;
+    SetEvent(automatic);
+    must(RegisterWaitForSingleObject(&OWN_WAIT, EVENT, stop_itself, &steps, INFINITE, WT_EXECUTEINWAITTHREAD));
+    SetEvent(EVENT);
+    IS(settled(&steps, 1), 1);
+    ResetEvent(EVENT);
+    must(RegisterWaitForSingleObject(&OWN_WAIT, automatic, stop_itself, &steps, INFINITE, WT_EXECUTEINWAITTHREAD));
+    IS(settled(&steps, 2), 2);
+    SetEvent(automatic);
+    IS(later(&steps), 2);
+    IS(WaitForSingleObject(automatic, 0), WAIT_OBJECT_0);
+    /* Stopped at once, wherever its thread is. */
+    LONG swallowed = 0;
+    for (int i = 0; i < 300; i++) {
+        must(RegisterWaitForSingleObject(&wait, automatic, note_wait, NULL, INFINITE, WT_EXECUTEDEFAULT));
+        for (int turns = 0; turns < i % 50; turns++)
+            SwitchToThread();
+        must(UnregisterWaitEx(wait, INVALID_HANDLE_VALUE));
+        SetEvent(automatic);
+        SwitchToThread();
+        swallowed += WaitForSingleObject(automatic, i % 100 == 0 ? 2 : 0) != WAIT_OBJECT_0;
+    }
+    IS(swallowed, 0);
+    CloseHandle(automatic);
+}
+
 /* ---- Timer queues. */
 
 static void timer_queues(void)
 {
     HANDLE queue, timer = NULL;
-    LONG steps = 0;
+    LONG steps = 0, other_steps = 0;
     TIMEOUTS = SIGNALS = 0;
     ANSWERS((queue = CreateTimerQueue()) != NULL, TRUE, UNTOUCHED);
     const ULONGLONG then = GetTickCount64();
@@ -154,8 +209,11 @@ static void timer_queues(void)
     IS(settled(&TIMEOUTS, 200), 200);
     ANSWERS(DeleteTimerQueueEx(queue, INVALID_HANDLE_VALUE), TRUE, UNTOUCHED);
     IS(SIGNALS, 0);
-    /* A queue that is deleted while a callback runs. */
+    /* A queue, and a timer of another one, that are deleted while a callback runs. */
     ResetEvent(GO);
+    must(CreateTimerQueueTimer(&timer, NULL, stay, &other_steps, 0, 0, WT_EXECUTEDEFAULT));
+    IS(settled(&other_steps, 1), 1);
+    ANSWERS(DeleteTimerQueueTimer(NULL, timer, NULL), FALSE, ERROR_IO_PENDING);
     queue = CreateTimerQueue();
     must(CreateTimerQueueTimer(&timer, queue, stay, &steps, 0, 0, WT_EXECUTEDEFAULT));
     IS(settled(&steps, 1), 1);
@@ -164,6 +222,7 @@ static void timer_queues(void)
     SetEvent(GO);
     IS(WaitForSingleObject(DONE, INFINITE), WAIT_OBJECT_0);
     IS(steps, 2);
+    IS(settled(&other_steps, 2), 2);
     /* The process's own queue. */
     must(CreateTimerQueueTimer(&timer, NULL, note_wait, DONE, 1, 0, WT_EXECUTEONLYONCE));
     IS(WaitForSingleObject(DONE, INFINITE), WAIT_OBJECT_0);
@@ -199,6 +258,7 @@ int main(void)
     work_items();
     registered_waits();
     ends_of_registered_waits();
+    stopped_waits();
     timer_queues();
     deleted_queue();
     return counted();

@@ -313,6 +313,59 @@ static void pool_timers_and_waits(void)
     ResetEvent(EVENT);
 }
 
+/* ---- Due times that are as far away as can be. */
+
+static void far_times(void)
+{
+    static const LONGLONG far[] = { INT64_MIN, INT64_MIN + 1, INT64_MIN + 1000000, INT64_MAX };
+    LONG ticks = 0;
+    PTP_TIMER timer = CreateThreadpoolTimer(note_timer, &ticks, NULL);
+    PTP_WAIT wait = CreateThreadpoolWait(note_object, NULL, NULL);
+    SIGNALS = TIMEOUTS = 0;
+    ResetEvent(EVENT);
+    for (size_t i = 0; i < ARRAYSIZE(far); i++) {
+        FILETIME due = time_of(far[i]);
+        SetThreadpoolTimer(timer, &due, 1, 0);
+        SetThreadpoolWait(wait, EVENT, &due);
+        IS(later(&ticks), 0);
+        IS(ReadAcquire(&TIMEOUTS), 0);
+        IS(IsThreadpoolTimerSet(timer), TRUE);
+    }
+    CloseThreadpoolTimer(timer);
+    CloseThreadpoolWait(wait);
+}
+
+/* ---- A group whose members are closed while another thread submits more. */
+
+static void CALLBACK count_simple(PTP_CALLBACK_INSTANCE instance, PVOID ran)
+{
+    (void)instance;
+    InterlockedIncrement(ran);
+}
+
+static DWORD WINAPI submit_many(LPVOID environment)
+{
+    for (int i = 0; i < 2000; i++)
+        must(TrySubmitThreadpoolCallback(count_simple, &RAN, environment));
+    return 0;
+}
+
+static void closed_while_submitted(void)
+{
+    TP_CALLBACK_ENVIRON environment;
+    PTP_CLEANUP_GROUP group = CreateThreadpoolCleanupGroup();
+    InitializeThreadpoolEnvironment(&environment);
+    SetThreadpoolCallbackCleanupGroup(&environment, group, NULL);
+    RAN = 0;
+    HANDLE thread = CreateThread(NULL, 0, submit_many, &environment, 0, NULL);
+    while (WaitForSingleObject(thread, 0) == WAIT_TIMEOUT)
+        CloseThreadpoolCleanupGroupMembers(group, FALSE, NULL);
+    CloseThreadpoolCleanupGroupMembers(group, FALSE, NULL);
+    IS(ReadAcquire(&RAN), 2000);
+    CloseThreadpoolCleanupGroup(group);
+    CloseHandle(thread);
+}
+
 int main(void)
 {
     must((GO = CreateEvent(NULL, TRUE, FALSE, NULL)) != NULL && (DONE = CreateEvent(NULL, FALSE, FALSE, NULL)) != NULL);
@@ -324,5 +377,7 @@ int main(void)
     left_callbacks();
     canceled_work();
     pool_timers_and_waits();
+    far_times();
+    closed_while_submitted();
     return counted();
 }

@@ -1,3 +1,4 @@
+/* SPDX-License-Identifier: MIT OR Apache-2.0 */
 /* Errors that a program tells the system of; GetLastError stands in ntwin.h. */
 #ifndef NTWIN_ERRHANDLINGAPI_H
 #define NTWIN_ERRHANDLINGAPI_H

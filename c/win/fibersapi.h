@@ -1,3 +1,4 @@
+/* SPDX-License-Identifier: MIT OR Apache-2.0 */
 /* Slots with a value for each thread, which a callback takes back. (A thread is its own only fiber.) */
 #ifndef NTWIN_FIBERSAPI_H
 #define NTWIN_FIBERSAPI_H

@@ -1,3 +1,4 @@
+/* SPDX-License-Identifier: MIT OR Apache-2.0 */
 /* Handles; CloseHandle and DuplicateHandle stand in ntwin.h. */
 #ifndef NTWIN_HANDLEAPI_H
 #define NTWIN_HANDLEAPI_H

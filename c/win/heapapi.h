@@ -1,3 +1,4 @@
+/* SPDX-License-Identifier: MIT OR Apache-2.0 */
 /* The heap of the process, which is the C library's. */
 #ifndef NTWIN_HEAPAPI_H
 #define NTWIN_HEAPAPI_H

@@ -1,8 +1,8 @@
+/* SPDX-License-Identifier: MIT OR Apache-2.0 */
 /* The interlocked calls and memory barriers. Each is one atomic step. It orders all that comes before and after; Acquire, Release and NoFence
  * at the end of a name order as much as they say. Increment, Decrement and Add answer the value after, the others the value before.
  *
- * In C the plain names take a `long` or an `unsigned long` too, which have 64 bits here; in C++ they are overloaded for all integers of 32
- * and 64 bits. */
+ * In C the plain names take a `long` or an `unsigned long` too; in C++ they are overloaded for all integers of 32 and 64 bits. */
 #ifndef NTWIN_INTERLOCKED_H
 #define NTWIN_INTERLOCKED_H
 
@@ -191,35 +191,85 @@ NTWIN_INLINE BYTE InterlockedCompareExchange128(LONG64 volatile *at, LONG64 high
 }
 #define _InterlockedCompareExchange128 InterlockedCompareExchange128
 
-/* ---- A `long` has 64 bits here. Where a program takes one in the place of a LONG, it is changed as a whole. */
+/* ---- A `long` has 64 bits here, and 32 on Windows: so a program casts the address of a LONG to one of a `long`. Where no `long` can be, 32 bits are
+ * changed: its address is no multiple of 8, or the compiler knows that the object, or the field, is smaller. Else 64 are. (Without optimization it
+ * knows little of fields, and in C++ nothing.) */
+
+#define NTWIN_IS_BETWEEN(at) (((uintptr_t)(at) & 7) != 0)
+#define NTWIN_IS_SMALL(at) (__builtin_object_size((const void *)(at), 1) < 8)
+
+#define NTWIN_OF_LONG_1(NAME, name, type, half, is_half) \
+    NTWIN_INLINE __attribute__((__always_inline__)) type NAME(name)(type volatile *at) \
+    { \
+        return is_half ? (type)(half)Interlocked##name((LONG volatile *)at) : (type)Interlocked##name##64((LONG64 volatile *)at); \
+    }
+#define NTWIN_OF_LONG_2(NAME, name, type, half, is_half) \
+    NTWIN_INLINE __attribute__((__always_inline__)) type NAME(name)(type volatile *at, type value) \
+    { \
+        return is_half ? (type)(half)Interlocked##name((LONG volatile *)at, (LONG)value) \
+                       : (type)Interlocked##name##64((LONG64 volatile *)at, (LONG64)value); \
+    }
+#define NTWIN_OF_LONG_3(NAME, name, type, half, is_half) \
+    NTWIN_INLINE __attribute__((__always_inline__)) type NAME(name)(type volatile *at, type value, type comparand) \
+    { \
+        return is_half ? (type)(half)Interlocked##name((LONG volatile *)at, (LONG)value, (LONG)comparand) \
+                       : (type)Interlocked##name##64((LONG64 volatile *)at, (LONG64)value, (LONG64)comparand); \
+    }
+#define NTWIN_OF_LONG(NAME, type, half, is_half) \
+    NTWIN_OF_LONG_1(NAME, Increment, type, half, is_half) \
+    NTWIN_OF_LONG_1(NAME, Decrement, type, half, is_half) \
+    NTWIN_OF_LONG_2(NAME, Add, type, half, is_half) \
+    NTWIN_OF_LONG_2(NAME, ExchangeAdd, type, half, is_half) \
+    NTWIN_OF_LONG_2(NAME, ExchangeSubtract, type, half, is_half) \
+    NTWIN_OF_LONG_2(NAME, Exchange, type, half, is_half) \
+    NTWIN_OF_LONG_3(NAME, CompareExchange, type, half, is_half) \
+    NTWIN_OF_LONG_2(NAME, And, type, half, is_half) \
+    NTWIN_OF_LONG_2(NAME, Or, type, half, is_half) \
+    NTWIN_OF_LONG_2(NAME, Xor, type, half, is_half)
 
 #ifdef __cplusplus
 #define NTWIN_OVERLOADS(NAME, type) \
     NTWIN_COUNTS(NAME, type, __ATOMIC_SEQ_CST) \
     NTWIN_EXCHANGES(NAME, type, __ATOMIC_SEQ_CST, __ATOMIC_SEQ_CST) \
     NTWIN_BITS(NAME, type, __ATOMIC_SEQ_CST)
+#define NTWIN_IS_HALF (NTWIN_IS_BETWEEN(at) || NTWIN_IS_SMALL(at))
 
 NTWIN_OVERLOADS(NTWIN_PLAIN, ULONG)
-NTWIN_OVERLOADS(NTWIN_PLAIN, LONG64)
-NTWIN_OVERLOADS(NTWIN_PLAIN, ULONG64)
+NTWIN_OF_LONG(NTWIN_PLAIN, LONG64, LONG, NTWIN_IS_HALF)
+NTWIN_OF_LONG(NTWIN_PLAIN, ULONG64, ULONG, NTWIN_IS_HALF)
 NTWIN_OVERLOADS(NTWIN_PLAIN64, ULONG64)
-NTWIN_OVERLOADS(NTWIN_INTRINSIC, LONG64)
+NTWIN_OF_LONG(NTWIN_INTRINSIC, LONG64, LONG, NTWIN_IS_HALF)
 #if __cplusplus >= 201103L
 NTWIN_OVERLOADS(NTWIN_PLAIN64, long long)
 NTWIN_OVERLOADS(NTWIN_PLAIN64, unsigned long long)
 #endif
 #else
-#define NTWIN_BY_WIDTH(name, at) (__extension__ _Generic(*(at), long: name##64, unsigned long: name##64, default: name))
-#define InterlockedIncrement(at) NTWIN_BY_WIDTH(InterlockedIncrement, at)(at)
-#define InterlockedDecrement(at) NTWIN_BY_WIDTH(InterlockedDecrement, at)(at)
-#define InterlockedAdd(at, by) NTWIN_BY_WIDTH(InterlockedAdd, at)(at, by)
-#define InterlockedExchangeAdd(at, by) NTWIN_BY_WIDTH(InterlockedExchangeAdd, at)(at, by)
-#define InterlockedExchangeSubtract(at, by) NTWIN_BY_WIDTH(InterlockedExchangeSubtract, at)(at, by)
-#define InterlockedExchange(at, value) NTWIN_BY_WIDTH(InterlockedExchange, at)(at, value)
-#define InterlockedCompareExchange(at, value, comparand) NTWIN_BY_WIDTH(InterlockedCompareExchange, at)(at, value, comparand)
-#define InterlockedAnd(at, bits) NTWIN_BY_WIDTH(InterlockedAnd, at)(at, bits)
-#define InterlockedOr(at, bits) NTWIN_BY_WIDTH(InterlockedOr, at)(at, bits)
-#define InterlockedXor(at, bits) NTWIN_BY_WIDTH(InterlockedXor, at)(at, bits)
+#define NTWIN_LONG(name) ntwin_long_##name
+#define NTWIN_ULONG(name) ntwin_ulong_##name
+#define NTWIN_HALF_LONG(name) ntwin_half_long_##name
+#define NTWIN_HALF_ULONG(name) ntwin_half_ulong_##name
+NTWIN_OF_LONG(NTWIN_LONG, long, LONG, NTWIN_IS_BETWEEN(at))
+NTWIN_OF_LONG(NTWIN_ULONG, unsigned long, ULONG, NTWIN_IS_BETWEEN(at))
+NTWIN_OF_LONG(NTWIN_HALF_LONG, long, LONG, TRUE)
+NTWIN_OF_LONG(NTWIN_HALF_ULONG, unsigned long, ULONG, TRUE)
+
+#define NTWIN_BY_WIDTH(name, at) \
+    (__extension__ _Generic((at), \
+        long *: NTWIN_IS_SMALL(at) ? NTWIN_HALF_LONG(name) : NTWIN_LONG(name), \
+        long volatile *: NTWIN_IS_SMALL(at) ? NTWIN_HALF_LONG(name) : NTWIN_LONG(name), \
+        unsigned long *: NTWIN_IS_SMALL(at) ? NTWIN_HALF_ULONG(name) : NTWIN_ULONG(name), \
+        unsigned long volatile *: NTWIN_IS_SMALL(at) ? NTWIN_HALF_ULONG(name) : NTWIN_ULONG(name), \
+        default: Interlocked##name))
+#define InterlockedIncrement(at) NTWIN_BY_WIDTH(Increment, at)(at)
+#define InterlockedDecrement(at) NTWIN_BY_WIDTH(Decrement, at)(at)
+#define InterlockedAdd(at, by) NTWIN_BY_WIDTH(Add, at)(at, by)
+#define InterlockedExchangeAdd(at, by) NTWIN_BY_WIDTH(ExchangeAdd, at)(at, by)
+#define InterlockedExchangeSubtract(at, by) NTWIN_BY_WIDTH(ExchangeSubtract, at)(at, by)
+#define InterlockedExchange(at, value) NTWIN_BY_WIDTH(Exchange, at)(at, value)
+#define InterlockedCompareExchange(at, value, comparand) NTWIN_BY_WIDTH(CompareExchange, at)(at, value, comparand)
+#define InterlockedAnd(at, bits) NTWIN_BY_WIDTH(And, at)(at, bits)
+#define InterlockedOr(at, bits) NTWIN_BY_WIDTH(Or, at)(at, bits)
+#define InterlockedXor(at, bits) NTWIN_BY_WIDTH(Xor, at)(at, bits)
 #endif
 
 /* ---- Barriers, and reads and writes that order. */

@@ -1,3 +1,4 @@
+/* SPDX-License-Identifier: MIT OR Apache-2.0 */
 /* Intrinsics of Microsoft's compilers that come with threads. */
 #ifndef NTWIN_INTRIN_H
 #define NTWIN_INTRIN_H

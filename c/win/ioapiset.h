@@ -1,3 +1,4 @@
+/* SPDX-License-Identifier: MIT OR Apache-2.0 */
 /* Completion ports for packets that a program posts itself: no files here. */
 #ifndef NTWIN_IOAPISET_H
 #define NTWIN_IOAPISET_H

@@ -1,3 +1,4 @@
+/* SPDX-License-Identifier: MIT OR Apache-2.0 */
 /* Modules: the program, libraries of this system by their file names, and one with the calls of these headers, which kernel32, kernelbase, ntdll and
  * winmm are here. */
 #ifndef NTWIN_LIBLOADERAPI_H

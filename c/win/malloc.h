@@ -1,3 +1,4 @@
+/* SPDX-License-Identifier: MIT OR Apache-2.0 */
 /* The C library's own header, and memory that is aligned as one asks. */
 #pragma GCC system_header
 #include_next <malloc.h>

@@ -1,3 +1,4 @@
+/* SPDX-License-Identifier: MIT OR Apache-2.0 */
 /* The C runtime's own calls for threads. */
 #ifndef NTWIN_PROCESS_H
 #define NTWIN_PROCESS_H

@@ -1,3 +1,4 @@
+/* SPDX-License-Identifier: MIT OR Apache-2.0 */
 /* Slots with a value for each thread, and what else concerns threads and the process; CreateThread and its like stand in ntwin.h. */
 #ifndef NTWIN_PROCESSTHREADSAPI_H
 #define NTWIN_PROCESSTHREADSAPI_H

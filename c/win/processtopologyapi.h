@@ -1,3 +1,4 @@
+/* SPDX-License-Identifier: MIT OR Apache-2.0 */
 /* Which processors there are, and on which a thread may run. All are one group and one node of memory; a mask has the first 64. */
 #ifndef NTWIN_PROCESSTOPOLOGYAPI_H
 #define NTWIN_PROCESSTOPOLOGYAPI_H

@@ -1,3 +1,4 @@
+/* SPDX-License-Identifier: MIT OR Apache-2.0 */
 /* The C library's own header. With _WIN32 it gives the names back that bits/pthreadtypes.h takes from its types. */
 #pragma GCC system_header
 #if defined _WIN32 && !defined NTWIN_GIVES_THREADS

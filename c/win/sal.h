@@ -1,3 +1,4 @@
+/* SPDX-License-Identifier: MIT OR Apache-2.0 */
 /* Annotations of parameters, which say nothing to these compilers. */
 #ifndef NTWIN_SAL_H
 #define NTWIN_SAL_H

@@ -1,3 +1,4 @@
+/* SPDX-License-Identifier: MIT OR Apache-2.0 */
 /* The version of Windows whose calls a program asks for: Windows 10, where it does not say. */
 #ifndef NTWIN_SDKDDKVER_H
 #define NTWIN_SDKDDKVER_H

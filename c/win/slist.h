@@ -1,3 +1,4 @@
+/* SPDX-License-Identifier: MIT OR Apache-2.0 */
 /* Lists that many threads push to and pop from, the last that came first. An entry that was popped may be freed at once. */
 #ifndef NTWIN_SLIST_H
 #define NTWIN_SLIST_H

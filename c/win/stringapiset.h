@@ -1,4 +1,5 @@
-/* Text in UTF-8 and in WCHAR, which has 32 bits here: a character each, and no surrogates. */
+/* SPDX-License-Identifier: MIT OR Apache-2.0 */
+/* Text in UTF-8 and in WCHAR, which has 32 bits here: a character each, and no surrogates. (With -fshort-wchar it is UTF-16: utf16.h.) */
 #ifndef NTWIN_STRINGAPISET_H
 #define NTWIN_STRINGAPISET_H
 

@@ -1,3 +1,4 @@
+/* SPDX-License-Identifier: MIT OR Apache-2.0 */
 /* Critical sections, SRW locks, condition variables, one-time initialization, waits on an address, and barriers. */
 #ifndef NTWIN_SYNCHAPI_H
 #define NTWIN_SYNCHAPI_H

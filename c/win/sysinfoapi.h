@@ -1,3 +1,4 @@
+/* SPDX-License-Identifier: MIT OR Apache-2.0 */
 /* The machine, and the time of day. */
 #ifndef NTWIN_SYSINFOAPI_H
 #define NTWIN_SYSINFOAPI_H

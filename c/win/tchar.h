@@ -1,3 +1,4 @@
+/* SPDX-License-Identifier: MIT OR Apache-2.0 */
 /* Text that is CHAR or WCHAR, as UNICODE says. */
 #ifndef NTWIN_TCHAR_H
 #define NTWIN_TCHAR_H

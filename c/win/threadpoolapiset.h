@@ -1,3 +1,4 @@
+/* SPDX-License-Identifier: MIT OR Apache-2.0 */
 /* The thread pool: work, timers and waits whose callbacks run in its threads. */
 #ifndef NTWIN_THREADPOOLAPISET_H
 #define NTWIN_THREADPOOLAPISET_H

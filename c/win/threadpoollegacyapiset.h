@@ -1,3 +1,4 @@
+/* SPDX-License-Identifier: MIT OR Apache-2.0 */
 /* Callbacks in threads of a pool: work, registered waits, and timers of queues. */
 #ifndef NTWIN_THREADPOOLLEGACYAPISET_H
 #define NTWIN_THREADPOOLLEGACYAPISET_H

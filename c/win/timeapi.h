@@ -1,3 +1,4 @@
+/* SPDX-License-Identifier: MIT OR Apache-2.0 */
 /* The clock of milliseconds. */
 #ifndef NTWIN_TIMEAPI_H
 #define NTWIN_TIMEAPI_H

@@ -1,3 +1,4 @@
+/* SPDX-License-Identifier: MIT OR Apache-2.0 */
 /* Which Windows a program runs on: what is here is what Windows 10 has. */
 #ifndef NTWIN_VERSIONHELPERS_H
 #define NTWIN_VERSIONHELPERS_H

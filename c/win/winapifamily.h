@@ -1,3 +1,4 @@
+/* SPDX-License-Identifier: MIT OR Apache-2.0 */
 /* For which kinds of programs a source is compiled: those of a desktop. */
 #ifndef NTWIN_WINAPIFAMILY_H
 #define NTWIN_WINAPIFAMILY_H

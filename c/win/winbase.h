@@ -1,3 +1,4 @@
+/* SPDX-License-Identifier: MIT OR Apache-2.0 */
 /* What stands in no header of its own, and the others' names. */
 #ifndef NTWIN_WINBASE_H
 #define NTWIN_WINBASE_H

@@ -1,8 +1,10 @@
-/* The keywords of Microsoft's compilers, and the types that ntwin.h does not need itself. */
+/* SPDX-License-Identifier: MIT OR Apache-2.0 */
+/* The words of Microsoft's headers, and the types that ntwin.h does not need itself. */
 #ifndef NTWIN_WINDEF_H
 #define NTWIN_WINDEF_H
 
 #include "../ntwin.h"
+#include "ntwin_keywords.h"
 #include "sal.h"
 #include "sdkddkver.h"
 #include "winapifamily.h"
@@ -11,15 +13,6 @@
 
 /* ---- Conventions of calls: there is one. */
 
-#define __stdcall
-#define __cdecl
-#define __fastcall
-#define __thiscall
-#define __vectorcall
-#define __clrcall
-#define _stdcall
-#define _cdecl
-#define _fastcall
 #define cdecl
 #define pascal
 #define WINAPIV
@@ -29,35 +22,7 @@
 #define STDMETHODCALLTYPE
 #define STDAPICALLTYPE
 
-/* ---- Declarations. `__declspec(align(16))` and the like are attributes; what a library imports and exports needs no word. */
-
-#define __declspec(word) NTWIN_DECLSPEC_##word
-#define _declspec(word) NTWIN_DECLSPEC_##word
-#define NTWIN_DECLSPEC_
-#define NTWIN_DECLSPEC_align(bytes) __attribute__((__aligned__(bytes)))
-#define NTWIN_DECLSPEC_allocate(section) __attribute__((__section__(section)))
-#define NTWIN_DECLSPEC_allocator
-#define NTWIN_DECLSPEC_code_seg(section)
-#define NTWIN_DECLSPEC_deprecated __attribute__((__deprecated__))
-#define NTWIN_DECLSPEC_dllexport
-#define NTWIN_DECLSPEC_dllimport
-#define NTWIN_DECLSPEC_guard(what)
-#define NTWIN_DECLSPEC_noalias
-#define NTWIN_DECLSPEC_noinline __attribute__((__noinline__))
-#define NTWIN_DECLSPEC_noreturn __attribute__((__noreturn__))
-#define NTWIN_DECLSPEC_nothrow __attribute__((__nothrow__))
-#define NTWIN_DECLSPEC_novtable
-#define NTWIN_DECLSPEC_restrict __attribute__((__malloc__))
-#define NTWIN_DECLSPEC_safebuffers
-#define NTWIN_DECLSPEC_selectany __attribute__((__weak__))
-#define NTWIN_DECLSPEC_uuid(id)
-#if defined __cplusplus && __cplusplus >= 201103L
-#define NTWIN_DECLSPEC_thread thread_local
-#elif !defined __cplusplus && defined __STDC_VERSION__ && __STDC_VERSION__ >= 201112L
-#define NTWIN_DECLSPEC_thread _Thread_local
-#else
-#define NTWIN_DECLSPEC_thread __thread
-#endif
+/* ---- Declarations. */
 
 #define DECLSPEC_ALIGN(bytes) __declspec(align(bytes))
 #define DECLSPEC_CACHEALIGN DECLSPEC_ALIGN(64)
@@ -76,9 +41,6 @@
 #define NTSYSAPI
 #define NTSYSCALLAPI
 
-#define _inline __inline__
-#define __forceinline __inline__ __attribute__((__always_inline__))
-#define _forceinline __forceinline
 #define FORCEINLINE __forceinline
 #define CFORCEINLINE __forceinline
 #define STKFORCEINLINE __forceinline
@@ -95,15 +57,6 @@
 #define DEFAULT_UNREACHABLE default: __builtin_unreachable()
 #endif
 
-#define __int8 char
-#define __int16 short
-#define __int32 int
-#define __int64 long
-#define _int64 long
-#define __ptr32
-#define __ptr64
-#define __unaligned
-#define __w64
 #define UNALIGNED
 #define RESTRICTED_POINTER __restrict__
 
@@ -122,7 +75,6 @@
 #define UNREFERENCED_PARAMETER(name) ((void)(name))
 #define DBG_UNREFERENCED_PARAMETER(name) ((void)(name))
 #define DBG_UNREFERENCED_LOCAL_VARIABLE(name) ((void)(name))
-#define __assume(condition) ((condition) ? (void)0 : __builtin_unreachable())
 
 /* ---- Types. */
 

@@ -1,3 +1,4 @@
+/* SPDX-License-Identifier: MIT OR Apache-2.0 */
 /* Numbers of errors, as Microsoft publishes them; ntwin.h has those that its own calls answer. */
 #ifndef NTWIN_WINERROR_H
 #define NTWIN_WINERROR_H

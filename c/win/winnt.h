@@ -1,3 +1,4 @@
+/* SPDX-License-Identifier: MIT OR Apache-2.0 */
 /* Structures, limits and rights of winnt.h. */
 #ifndef NTWIN_WINNT_H
 #define NTWIN_WINNT_H

@@ -1,3 +1,4 @@
+/* SPDX-License-Identifier: MIT OR Apache-2.0 */
 /* ---- Barriers. Who comes last opens it for those that wait, and for the next round. */
 
 struct barrier {
@@ -60,8 +61,10 @@ BOOL EnterSynchronizationBarrier(LPSYNCHRONIZATION_BARRIER barrier, DWORD flags)
 BOOL DeleteSynchronizationBarrier(LPSYNCHRONIZATION_BARRIER barrier)
 {
     struct barrier *it = (struct barrier *)(void *)barrier;
+    const DWORD error = own.last_error;
     uint32_t inside;
     while ((inside = atomic_load_explicit(&it->inside, memory_order_acquire)) != 0)
         wait_on(&it->inside, &inside, sizeof inside, 1, OF_LIBRARY);
+    own.last_error = error;
     return TRUE;
 }

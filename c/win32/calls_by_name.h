@@ -1,3 +1,4 @@
+/* SPDX-License-Identifier: MIT OR Apache-2.0 */
 /* The calls that GetProcAddress finds, in the order of their names. */
 
 #define NAMED(call) { #call, (FARPROC)(void (*)(void))(call) }

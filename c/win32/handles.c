@@ -1,3 +1,4 @@
+/* SPDX-License-Identifier: MIT OR Apache-2.0 */
 /* ---- What is told of a handle. */
 
 BOOL GetHandleInformation(HANDLE handle, LPDWORD flags)

@@ -1,3 +1,4 @@
+/* SPDX-License-Identifier: MIT OR Apache-2.0 */
 /* ---- The heap of the process: each piece of memory has its size before it. */
 
 struct piece {

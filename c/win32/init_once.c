@@ -1,3 +1,4 @@
+/* SPDX-License-Identifier: MIT OR Apache-2.0 */
 /* ---- One-time initialization. The two lowest bits say how it stands; the others are its context once it is done. */
 
 enum { ONCE_BEFORE, ONCE_BEGUN, ONCE_DONE, ONCE_BEGUN_BY_MANY, ONCE_BITS = 3 };
@@ -70,10 +71,19 @@ BOOL InitOnceComplete(LPINIT_ONCE once, DWORD flags, LPVOID context)
     return TRUE;
 }
 
+/* The callback has made this context: the initialization is done, or failed where that has one of the bits that are not its own. */
+static BOOL complete_made(PINIT_ONCE once, LPVOID made)
+{
+    if (((uintptr_t)made & ONCE_BITS) == 0)
+        return InitOnceComplete(once, 0, made);
+    InitOnceComplete(once, INIT_ONCE_INIT_FAILED, NULL);
+    return fail(ERROR_INVALID_PARAMETER);
+}
+
 BOOL InitOnceExecuteOnce(PINIT_ONCE once, PINIT_ONCE_FN initialize, PVOID parameter, LPVOID *context)
 {
     BOOL pending;
-    LPVOID made = NULL;
+    LPVOID none = NULL, *made = context != NULL ? context : &none;
     const uintptr_t value = once_of(once);
     if ((value & ONCE_BITS) == ONCE_DONE)
         return finish_once(once, value, context);
@@ -81,11 +91,8 @@ BOOL InitOnceExecuteOnce(PINIT_ONCE once, PINIT_ONCE_FN initialize, PVOID parame
         return FALSE;
     if (!pending)
         return TRUE;
-    if (!initialize(once, parameter, &made)) {
-        InitOnceComplete(once, INIT_ONCE_INIT_FAILED, NULL);
-        return FALSE;
-    }
-    if (context != NULL)
-        *context = made;
-    return InitOnceComplete(once, 0, made);
+    if (initialize(once, parameter, made))
+        return complete_made(once, *made);
+    InitOnceComplete(once, INIT_ONCE_INIT_FAILED, NULL);
+    return FALSE;
 }

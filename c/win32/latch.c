@@ -1,3 +1,4 @@
+/* SPDX-License-Identifier: MIT OR Apache-2.0 */
 /* ---- A latch: a word that is free, taken, or taken and wanted, as the dispatcher's lock is. It is held for a few instructions. */
 
 static inline bool try_latch(_Atomic uint32_t *latch)
@@ -31,11 +32,10 @@ static inline void give_latch(_Atomic uint32_t *latch)
         wake_one(latch);
 }
 
-/* Wakes up to so many threads that sleep on the word. Answers how many there were. */
-static long wake(_Atomic uint32_t *word, int count)
+/* Wakes up to so many threads of those that sleep on the word among these. */
+static void wake_among(_Atomic uint32_t *word, int count, uint32_t bits)
 {
     const int error = errno;
-    const long woken = syscall(SYS_futex, word, FUTEX_WAKE_PRIVATE, count, NULL, NULL, 0);
+    syscall(SYS_futex, word, FUTEX_WAKE_BITSET_PRIVATE, count, NULL, NULL, bits);
     errno = error;
-    return woken;
 }

@@ -1,3 +1,4 @@
+/* SPDX-License-Identifier: MIT OR Apache-2.0 */
 /* ---- What is told of a thread: how it begins and ends. */
 
 /* The system's own name of the thread. */

@@ -1,3 +1,4 @@
+/* SPDX-License-Identifier: MIT OR Apache-2.0 */
 /* ---- The texts of errors: of those that calls here answer, and that programs name. */
 
 static const struct {
@@ -76,69 +77,114 @@ static const char *text_asked(DWORD flags, LPCVOID source, DWORD error)
     return text;
 }
 
-/* Its length with the line's end, which is a blank where lines are not to be broken. A text of the program's own ends as it does. */
-static DWORD length_of_message(DWORD flags, const char *text)
+/* What an escape stands for in a text of the program's own, with this letter after the %; null where it is no such one, as those of inserts. */
+static const char *text_of_escape(char letter)
 {
-    if ((flags & FORMAT_MESSAGE_FROM_STRING) != 0)
-        return (DWORD)strlen(text);
-    return (DWORD)strlen(text) + ((flags & FORMAT_MESSAGE_MAX_WIDTH_MASK) != 0 ? 1 : 2);
+    static const char *const texts[] = { ['n'] = "\r\n", ['r'] = "\r", ['t'] = "\t", ['b'] = " " };
+    return (unsigned char)letter < ARRAYSIZE(texts) ? texts[(unsigned char)letter] : NULL;
 }
 
-static char letter_of_message(DWORD flags, const char *text, DWORD index)
+/* Writes a text of the program's own, which %0 ends. (None gets longer.) */
+static void write_own_text(char *to, const char *text)
 {
-    const DWORD length = (DWORD)strlen(text);
-    if (index < length)
-        return text[index];
-    if ((flags & FORMAT_MESSAGE_MAX_WIDTH_MASK) != 0)
-        return ' ';
-    return index == length ? '\r' : '\n';
+    for (; *text != 0 && strncmp(text, "%0", 2) != 0; text++) {
+        const char *escape = *text == '%' ? text_of_escape(text[1]) : NULL;
+        if (escape != NULL) {
+            to = stpcpy(to, escape);
+            text++;
+            continue;
+        }
+        *to++ = *text;
+        if (*text == '%' && text[1] != 0)
+            *to++ = *++text;
+    }
+    *to = 0;
+}
+
+/* The message, which the caller frees: a text of the system has its line's end, which is a blank where lines are not to be broken. Null, with the
+ * last error set, where memory is refused. */
+static char *make_message(DWORD flags, const char *text)
+{
+    char *made = malloc(strlen(text) + 3);
+    if (made == NULL)
+        fail(ERROR_NOT_ENOUGH_MEMORY);
+    else if ((flags & FORMAT_MESSAGE_FROM_STRING) != 0)
+        write_own_text(made, text);
+    else
+        strcpy(stpcpy(made, text), (flags & FORMAT_MESSAGE_MAX_WIDTH_MASK) != 0 ? " " : "\r\n");
+    return made;
+}
+
+/* The place for a message that takes so much room, in letters with so many bytes: the buffer, or one that is made, whose address is put there. Null, with
+ * the last error set, where there is none. */
+static void *place_of_message(DWORD flags, void *buffer, DWORD size, DWORD room, size_t bytes)
+{
+    void *made = buffer;
+    if ((flags & FORMAT_MESSAGE_ALLOCATE_BUFFER) == 0) {
+        if (size < room)
+            fail(ERROR_INSUFFICIENT_BUFFER);
+        return size < room ? NULL : buffer;
+    }
+    made = malloc((size > room ? size : room) * bytes);
+    memcpy(buffer, &made, sizeof made);
+    if (made == NULL)
+        fail(ERROR_NOT_ENOUGH_MEMORY);
+    return made;
+}
+
+/* The message that a call asks for, which the caller frees; null, with the last error set, where there is none. Where the call makes a buffer, there has
+ * to be a place for its address, which is null until then. */
+static char *message_asked(DWORD flags, LPCVOID source, DWORD error, void *buffer)
+{
+    if ((flags & FORMAT_MESSAGE_ALLOCATE_BUFFER) != 0) {
+        if (buffer == NULL) {
+            fail(ERROR_NOT_ENOUGH_MEMORY);
+            return NULL;
+        }
+        memcpy(buffer, &(void *){ NULL }, sizeof(void *));
+    }
+    const char *text = text_asked(flags, source, error);
+    return text != NULL ? make_message(flags, text) : NULL;
 }
 
 DWORD FormatMessageA(DWORD flags, LPCVOID source, DWORD error, DWORD language, LPSTR buffer, DWORD size, va_list *arguments)
 {
-    const char *text = text_asked(flags, source, error);
+    char *message = message_asked(flags, source, error, buffer);
     (void)language;
     (void)arguments;
-    if (text == NULL)
+    if (message == NULL)
         return 0;
-    const DWORD length = length_of_message(flags, text);
-    if ((flags & FORMAT_MESSAGE_ALLOCATE_BUFFER) != 0) {
-        const DWORD room = size > length ? size : length + 1;
-        LPSTR made = malloc(room);
-        memcpy(buffer, &made, sizeof made);
-        if (made == NULL)
-            return (DWORD)fail(ERROR_NOT_ENOUGH_MEMORY);
-        buffer = made;
-    } else if (size <= length) {
-        return (DWORD)fail(ERROR_INSUFFICIENT_BUFFER);
-    }
-    for (DWORD i = 0; i < length; i++)
-        buffer[i] = letter_of_message(flags, text, i);
-    buffer[length] = 0;
-    return length;
+    const DWORD length = (DWORD)strlen(message);
+    char *made = place_of_message(flags, buffer, size, length + 1, sizeof *made);
+    if (made != NULL)
+        memcpy(made, message, length + 1);
+    free(message);
+    return made != NULL ? length : 0;
 }
 
-/* (A text of the program's own is not taken in this form.) */
+/* The same in letters of other sizes. (A text of the program's own is not taken in these forms.) */
+static DWORD format_message(DWORD flags, DWORD error, void *buffer, DWORD size, size_t bytes)
+{
+    char *message = (flags & FORMAT_MESSAGE_FROM_STRING) == 0 ? message_asked(flags, NULL, error, buffer) : NULL;
+    if (message == NULL)
+        return (flags & FORMAT_MESSAGE_FROM_STRING) != 0 ? (DWORD)fail(ERROR_NOT_SUPPORTED) : 0;
+    const DWORD length = (DWORD)strlen(message);
+    void *made = place_of_message(flags, buffer, size, length + 1, bytes);
+    /* (The system's texts are in ASCII.) */
+    for (DWORD i = 0; made != NULL && i <= length; i++) {
+        if (bytes == sizeof(uint16_t))
+            ((uint16_t *)made)[i] = (uint16_t)message[i];
+        else
+            ((WCHAR *)made)[i] = message[i];
+    }
+    free(message);
+    return made != NULL ? length : 0;
+}
+
 DWORD FormatMessageW(DWORD flags, LPCVOID source, DWORD error, DWORD language, LPWSTR buffer, DWORD size, va_list *arguments)
 {
-    const bool allocates = (flags & FORMAT_MESSAGE_ALLOCATE_BUFFER) != 0;
-    LPSTR narrow = NULL;
-    if ((flags & FORMAT_MESSAGE_FROM_STRING) != 0)
-        return (DWORD)fail(ERROR_NOT_SUPPORTED);
-    const DWORD length = FormatMessageA(flags | FORMAT_MESSAGE_ALLOCATE_BUFFER, source, error, language, (LPSTR)(void *)&narrow, 0, arguments);
-    if (length == 0)
-        return 0;
-    LPWSTR made = buffer;
-    if (allocates) {
-        made = malloc((size > length ? size : length + 1) * sizeof *made);
-        memcpy(buffer, &made, sizeof made);
-    }
-    if (made == NULL || (!allocates && size <= length)) {
-        free(narrow);
-        return (DWORD)fail(made == NULL ? ERROR_NOT_ENOUGH_MEMORY : ERROR_INSUFFICIENT_BUFFER);
-    }
-    for (DWORD i = 0; i <= length; i++)
-        made[i] = (WCHAR)(unsigned char)narrow[i];
-    free(narrow);
-    return length;
+    (void)source;
+    (void)language;
+    (void)arguments;
+    return format_message(flags, error, buffer, size, sizeof *buffer);
 }

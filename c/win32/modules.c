@@ -1,6 +1,5 @@
+/* SPDX-License-Identifier: MIT OR Apache-2.0 */
 /* ---- Modules: the libraries of the system, and one with the calls that are here, by whichever of Windows' names. */
-
-#include <dlfcn.h>
 
 #include "calls_by_name.h"
 

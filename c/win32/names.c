@@ -1,3 +1,4 @@
+/* SPDX-License-Identifier: MIT OR Apache-2.0 */
 /* ---- Names in the process. A name stands for an object, of which a handle with all rights is kept that no program sees. It is gone with the last
  * handle that a program has to the object. */
 
@@ -11,18 +12,42 @@ struct named {
     WCHAR name[];
 };
 
-/* A name as a call gives it: the one or the other, or none; and where in the program that call is. */
+/* A name as a call gives it: one of these three, or none; and where in the program that call is. */
 struct given_name {
     LPCSTR narrow;
     LPCWSTR wide;
+    const uint16_t *utf16;
     const void *place;
 };
 #define NARROW(name) ((struct given_name){ .narrow = (name), .place = __builtin_return_address(0) })
 #define WIDE(name) ((struct given_name){ .wide = (name), .place = __builtin_return_address(0) })
+#define UTF16(name) ((struct given_name){ .utf16 = (name), .place = __builtin_return_address(0) })
+
+static bool has_name(struct given_name given)
+{
+    return given.narrow != NULL || given.wide != NULL || given.utf16 != NULL;
+}
 
 static bool is_named(struct given_name given)
 {
-    return (given.narrow != NULL && *given.narrow != 0) || (given.wide != NULL && *given.wide != 0);
+    return has_name(given) && (given.narrow != NULL ? *given.narrow != 0 : given.wide != NULL ? *given.wide != 0 : *given.utf16 != 0);
+}
+
+/* Reads a character of UTF-16 before `end`, which is null where a null ends the text, and goes past it. Half a pair stands for itself. */
+static uint32_t read_utf16(const uint16_t **at, const uint16_t *end)
+{
+    const uint32_t first = *(*at)++;
+    if ((first & 0xFC00) != 0xD800 || *at == end || (**at & 0xFC00) != 0xDC00)
+        return first;
+    return 0x10000 + ((first & 0x3FF) << 10) + (*(*at)++ & 0x3FFu);
+}
+
+/* The next letter of a name, which it goes past. */
+static WCHAR next_letter(struct given_name *given)
+{
+    if (given->narrow != NULL)
+        return (WCHAR)(unsigned char)*given->narrow++;
+    return given->wide != NULL ? *given->wide++ : (WCHAR)read_utf16(&given->utf16, NULL);
 }
 
 /* A name, read from what a program gives, which has no prefix Local\. */
@@ -36,7 +61,7 @@ static uint32_t read_name(struct given_name given, struct name *name)
     static const WCHAR local[] = L"Local\\", global[] = L"Global\\";
     size_t length = 0;
     WCHAR letter;
-    while ((letter = given.wide != NULL ? given.wide[length] : (WCHAR)(unsigned char)given.narrow[length]) != 0) {
+    while ((letter = next_letter(&given)) != 0) {
         if (length == MAX_PATH)
             return ERROR_FILENAME_EXCED_RANGE;
         name->text[length++] = letter;

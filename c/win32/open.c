@@ -1,3 +1,4 @@
+/* SPDX-License-Identifier: MIT OR Apache-2.0 */
 /* ---- Handles of objects by their names. */
 
 static HANDLE open_by_name(enum kind kind, struct given_name given, DWORD access)
@@ -6,7 +7,7 @@ static HANDLE open_by_name(enum kind kind, struct given_name given, DWORD access
     struct nt_reply reply;
     uint32_t refused;
     if (!is_named(given))
-        refused = given.narrow == NULL && given.wide == NULL ? ERROR_INVALID_PARAMETER : ERROR_INVALID_HANDLE;
+        refused = has_name(given) ? ERROR_INVALID_HANDLE : ERROR_INVALID_PARAMETER;
     else
         refused = read_name(given, &name);
     if (refused != 0) {

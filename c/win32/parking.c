@@ -1,14 +1,15 @@
+/* SPDX-License-Identifier: MIT OR Apache-2.0 */
 /* ---- Threads that wait at an address, the first that came first. Each sleeps on a word of its own, and is woken by itself alone. The addresses
  * are spread over lists; each list has a latch. */
 
-enum { PARKING_LISTS = 256, AWAKENED_AT_ONCE = 64, PARKED = 0, UNPARKED = 1, RETRIES = 64 };
+enum { PARKING_LISTS = 256, AWAKENED_AT_ONCE = 64, UNPARKED = 0, PARKED = 1, RETRIES = 64 };
 
 /* Why a thread waits: told.c says so of each but those that are the library's own. */
 enum why { ON_ADDRESS, ON_VARIABLE, AT_BARRIER, FOR_ONCE, FOR_CALLBACKS, OF_LIBRARY };
 
 /* A thread's place in a list. It has one, since it waits at one address at a time. */
 struct parked {
-    _Atomic uint32_t word;         /* PARKED or UNPARKED */
+    _Atomic uint32_t word;         /* PARKED while it stands in a list, or UNPARKED */
     const volatile void *address;
     struct parked *earlier, *later;
     enum why why;
@@ -101,8 +102,10 @@ static bool sleep_parked(struct parking *parking, uint64_t moment)
     if (!was_unparked) {
         take_latch(&parking->latch);
         was_unparked = is_unparked();
-        if (!was_unparked)
+        if (!was_unparked) {
             leave_parking(parking, &parked);
+            atomic_store_explicit(&parked.word, UNPARKED, memory_order_relaxed);
+        }
         give_latch(&parking->latch);
     }
     comes_after(&parked.word);

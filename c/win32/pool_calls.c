@@ -1,29 +1,12 @@
+/* SPDX-License-Identifier: MIT OR Apache-2.0 */
 /* ---- The pool's calls: pools, environments, work and cleanup groups. */
 
-struct _TP_CLEANUP_GROUP {
-    struct task *first;
-};
-
-static void leave_group(struct task *task)
-{
-    if (task->group == NULL)
-        return;
-    if (task->earlier != NULL)
-        task->earlier->later = task->later;
-    else
-        task->group->first = task->later;
-    if (task->later != NULL)
-        task->later->earlier = task->earlier;
-    task->group = NULL;
-}
-
-/* Readies a task for this environment; null is the usual one. */
-static void open_task(struct task *task, PVOID context, PTP_CALLBACK_ENVIRON environment)
+/* Readies a task for this environment, under the latch; null is the usual one. */
+static void add_task(struct task *task, PVOID context, PTP_CALLBACK_ENVIRON environment)
 {
     PTP_CLEANUP_GROUP group = environment != NULL ? environment->CleanupGroup : NULL;
     task->context = context;
     task->pool = environment != NULL && environment->Pool != NULL ? environment->Pool : &usual_pool;
-    take_latch(&pools_latch);
     task->pool->tasks++;
     task->group = group;
     if (group != NULL) {
@@ -33,6 +16,12 @@ static void open_task(struct task *task, PVOID context, PTP_CALLBACK_ENVIRON env
             task->later->earlier = task;
         group->first = task;
     }
+}
+
+static void open_task(struct task *task, PVOID context, PTP_CALLBACK_ENVIRON environment)
+{
+    take_latch(&pools_latch);
+    add_task(task, context, environment);
     give_latch(&pools_latch);
 }
 
@@ -44,6 +33,10 @@ PTP_POOL CreateThreadpool(PVOID reserved)
         return NULL;
     }
     pool->most = USUAL_MAXIMUM;
+    take_latch(&pools_latch);
+    pool->next = pools;
+    pools = pool;
+    give_latch(&pools_latch);
     return pool;
 }
 
@@ -66,7 +59,7 @@ static void set_bounds(PTP_POOL pool, struct bounds bounds)
     take_latch(&pools_latch);
     pool->least = bounds.least;
     pool->most = bounds.most;
-    const bool is_past = is_one_too_many(pool);
+    const bool is_past = pool->threads > pool->most;
     const uint32_t room = is_past ? 0 : pool->most - pool->threads;
     const uint32_t more = pool->waiting_callbacks < room ? pool->waiting_callbacks : room;
     if (is_past)
@@ -74,8 +67,12 @@ static void set_bounds(PTP_POOL pool, struct bounds bounds)
     give_latch(&pools_latch);
     if (is_past)
         WakeByAddressAll((PVOID)&pool->calls);
-    for (uint32_t i = 0; i < more; i++)
-        call_for_thread(pool);
+    for (uint32_t i = 0; i < more; i++) {
+        take_latch(&pools_latch);
+        const struct call call = call_for_thread(pool);
+        give_latch(&pools_latch);
+        bring_thread(call);
+    }
 }
 
 void SetThreadpoolThreadMaximum(PTP_POOL pool, DWORD most)
@@ -92,7 +89,8 @@ static bool lacks_thread(PTP_POOL pool)
 {
     take_latch(&pools_latch);
     const bool is_lacking = pool->threads < pool->least;
-    pool->threads += is_lacking;
+    if (is_lacking)
+        count_new_thread(pool);
     give_latch(&pools_latch);
     return is_lacking;
 }
@@ -116,7 +114,7 @@ void CloseThreadpool(PTP_POOL pool)
     take_latch(&pools_latch);
     pool->is_closed = true;
     atomic_fetch_add_explicit(&pool->calls, 1, memory_order_relaxed);
-    const bool ends = is_over(pool), is_empty = pool->tasks == 0;
+    const bool ends = leave_pools(pool), is_empty = pool->tasks == 0;
     give_latch(&pools_latch);
     if (ends)
         free(pool);
@@ -202,7 +200,7 @@ PTP_WORK CreateThreadpoolWork(PTP_WORK_CALLBACK callback, PVOID context, PTP_CAL
 
 void SubmitThreadpoolWork(PTP_WORK work)
 {
-    submit(&work->task, SIGNALED);
+    submit(&work->task);
 }
 
 void WaitForThreadpoolWorkCallbacks(PTP_WORK work, BOOL cancels)
@@ -224,9 +222,10 @@ static BOOL submit_simple(struct simple what, PVOID context, PTP_CALLBACK_ENVIRO
     *simple = what;
     simple->task.call = call_simple;
     simple->task.end = free_task;
-    open_task(&simple->task, context, environment);
     simple->task.is_closed = true;
-    return submit(&simple->task, SIGNALED);
+    take_latch(&pools_latch);
+    add_task(&simple->task, context, environment);
+    return try_to_submit(&simple->task);
 }
 
 BOOL TrySubmitThreadpoolCallback(PTP_SIMPLE_CALLBACK callback, PVOID context, PTP_CALLBACK_ENVIRON environment)

@@ -1,3 +1,4 @@
+/* SPDX-License-Identifier: MIT OR Apache-2.0 */
 /* ---- Which handles are a completion port's, under the lock (ports.c has the ports). */
 
 /* How many handles it has. */

@@ -1,3 +1,4 @@
+/* SPDX-License-Identifier: MIT OR Apache-2.0 */
 /* ---- Completion ports. A packet that is posted goes to the thread that came last, if the port lets one more run, or waits in the port. A thread that
  * waits for a packet waits for an event of its own. For the dispatcher a port is an event that is never set. */
 

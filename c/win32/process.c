@@ -1,3 +1,4 @@
+/* SPDX-License-Identifier: MIT OR Apache-2.0 */
 /* ---- The C runtime's threads, over CreateThread. */
 
 /* The last error of the call of the C runtime that failed last. */

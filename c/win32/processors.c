@@ -1,3 +1,4 @@
+/* SPDX-License-Identifier: MIT OR Apache-2.0 */
 /* ---- Processors: one group and one node, the first 64 of them in a mask. */
 
 #include <dirent.h>
@@ -108,7 +109,8 @@ static pid_t task_of(HANDLE thread)
     }
 }
 
-DWORD_PTR SetThreadAffinityMask(HANDLE thread, DWORD_PTR mask)
+/* Puts the thread on these processors of this machine. Answers those on which it was, or 0, with the last error set. */
+static DWORD_PTR put_thread_on(HANDLE thread, DWORD_PTR mask)
 {
     const cpu_set_t set = set_of(mask);
     const DWORD_PTR all = processors_here();
@@ -121,6 +123,12 @@ DWORD_PTR SetThreadAffinityMask(HANDLE thread, DWORD_PTR mask)
         return 0;
     }
     return before;
+}
+
+/* (All bits stand for all processors there are.) */
+DWORD_PTR SetThreadAffinityMask(HANDLE thread, DWORD_PTR mask)
+{
+    return put_thread_on(thread, mask == ~(DWORD_PTR)0 ? processors_here() : mask);
 }
 
 BOOL GetThreadGroupAffinity(HANDLE thread, PGROUP_AFFINITY affinity)
@@ -136,7 +144,7 @@ BOOL SetThreadGroupAffinity(HANDLE thread, const GROUP_AFFINITY *affinity, PGROU
 {
     if (affinity->Group != 0)
         return fail(ERROR_INVALID_PARAMETER);
-    const DWORD_PTR mask = SetThreadAffinityMask(thread, affinity->Mask);
+    const DWORD_PTR mask = put_thread_on(thread, affinity->Mask);
     if (mask == 0)
         return FALSE;
     if (before != NULL)

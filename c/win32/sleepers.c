@@ -1,3 +1,4 @@
+/* SPDX-License-Identifier: MIT OR Apache-2.0 */
 /* ---- Who sleeps for a lock, for those who ask why threads wait (told.c). It is noted just before a thread falls asleep, and no longer once it has
  * the lock, so a lock that is told of is still there. */
 
@@ -32,6 +33,7 @@ static void note_sleeper(struct sleeper *it)
     it->later = sleepers.first;
     if (it->later != NULL)
         it->later->earlier = it;
+    atomic_signal_fence(memory_order_release); /* (A child that is forked here reads the list: forked.c.) */
     sleepers.first = it;
     give_latch(&sleepers.latch);
 }

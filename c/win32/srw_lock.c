@@ -1,9 +1,10 @@
-/* ---- SRW locks: a word of who has it and who wants it, and a word that counts how often a thread was called that wants it alone. While a
- * thread waits that wants it alone, or any that shares, no new thread may share. */
+/* SPDX-License-Identifier: MIT OR Apache-2.0 */
+/* ---- SRW locks: a word of who has it and who wants it, on which those sleep who want it. While a thread waits that wants it alone, or any that
+ * shares, no new thread may share. */
 
 struct srw {
     _Atomic uint32_t state;
-    _Atomic uint32_t calls;
+    uint32_t unused;
 };
 _Static_assert(sizeof(struct srw) == sizeof(SRWLOCK), "an SRW lock is one pointer");
 
@@ -13,6 +14,9 @@ _Static_assert(sizeof(struct srw) == sizeof(SRWLOCK), "an SRW lock is one pointe
 #define ALONE_WAITER 0x10000u
 #define ALONE_WAITERS 0x7FFF0000u /* how many wait that want it alone, until they have it */
 #define SHARERS_WAIT 0x80000000u
+
+/* Among those who sleep on the state. */
+enum { WANT_IT_ALONE = 1, WANT_TO_SHARE = 2 };
 
 static struct srw *srw_of(PSRWLOCK lock)
 {
@@ -45,16 +49,30 @@ static inline uint32_t state_of(struct srw *srw)
     return atomic_load_explicit(&srw->state, memory_order_relaxed);
 }
 
-/* Nobody has it, in this state, and threads wait: calls one that wants it alone, or else those that share. Who takes it meanwhile calls them
- * when it lets go. */
-__attribute__((noinline)) static void call_waiters(struct srw *srw, uint32_t state)
+/* Gives it back, which was seen in this state and of which the caller has this part. Whoever takes it in between may free it. So the step that gives it
+ * back tells all that is to be known of those who wait: one that wants it alone is called, or else all that share; and then nothing is done with the
+ * lock, but for a wake by its address. */
+__attribute__((noinline)) static void give_wanted(struct srw *srw, uint32_t state, uint32_t part)
 {
-    if ((state & ALONE_WAITERS) != 0) {
-        atomic_fetch_add_explicit(&srw->calls, 1, memory_order_release);
-        wake(&srw->calls, 1);
-    } else if (swap_state(srw, &state, 0)) {
-        wake(&srw->state, INT_MAX);
-    }
+    uint32_t after;
+    do {
+        after = state - part;
+        if (after == SHARERS_WAIT)
+            after = 0;
+    } while (!atomic_compare_exchange_weak_explicit(&srw->state, &state, after, memory_order_release, memory_order_relaxed));
+    if (!is_nobodys(after))
+        return;
+    if ((state & ALONE_WAITERS) != 0)
+        wake_among(&srw->state, 1, WANT_IT_ALONE);
+    else if ((state & SHARERS_WAIT) != 0)
+        wake_among(&srw->state, INT_MAX, WANT_TO_SHARE);
+}
+
+/* The same, where nobody seemed to wait. */
+static inline void give(struct srw *srw, uint32_t state, uint32_t part)
+{
+    if (!atomic_compare_exchange_strong_explicit(&srw->state, &state, state - part, memory_order_release, memory_order_relaxed))
+        give_wanted(srw, state, part);
 }
 
 /* Looks for a while until it is nobody's, or others wait too. */
@@ -79,14 +97,13 @@ __attribute__((noinline)) static void wait_alone(struct srw *srw)
     note_sleeper(&sleeper);
     atomic_fetch_add_explicit(&srw->state, ALONE_WAITER, memory_order_relaxed);
     for (;;) {
-        const uint32_t seen = atomic_load_explicit(&srw->calls, memory_order_acquire);
         state = state_of(srw);
         while (is_nobodys(state))
             if (swap_state(srw, &state, (state | ALONE) - ALONE_WAITER)) {
                 forget_sleeper(&sleeper);
                 return;
             }
-        sleep_on(&srw->calls, seen, NULL);
+        sleep_among(&srw->state, state, NULL, WANT_IT_ALONE);
     }
 }
 
@@ -103,7 +120,7 @@ __attribute__((noinline)) static void wait_to_share(struct srw *srw)
             continue;
         struct sleeper sleeper = { .lock = lock_of(srw), .shares = true };
         note_sleeper(&sleeper);
-        sleep_on(&srw->state, state | SHARERS_WAIT, NULL);
+        sleep_among(&srw->state, state | SHARERS_WAIT, NULL, WANT_TO_SHARE);
         forget_sleeper(&sleeper);
         state = state_of(srw);
     }
@@ -139,9 +156,7 @@ void ReleaseSRWLockExclusive(PSRWLOCK lock)
 {
     struct srw *srw = srw_of(lock);
     comes_before(&srw->state);
-    const uint32_t state = atomic_fetch_sub_explicit(&srw->state, ALONE, memory_order_release) - ALONE;
-    if (state != 0)
-        call_waiters(srw, state);
+    give(srw, ALONE, ALONE);
 }
 
 BOOLEAN TryAcquireSRWLockShared(PSRWLOCK lock)
@@ -169,7 +184,9 @@ void ReleaseSRWLockShared(PSRWLOCK lock)
 {
     struct srw *srw = srw_of(lock);
     comes_before(&srw->state);
-    const uint32_t state = atomic_fetch_sub_explicit(&srw->state, SHARER, memory_order_release) - SHARER;
-    if (is_nobodys(state) && state != 0)
-        call_waiters(srw, state);
+    const uint32_t state = state_of(srw);
+    if ((state & (SHARERS_WAIT | ALONE_WAITERS)) == 0)
+        give(srw, state, SHARER);
+    else
+        give_wanted(srw, state, SHARER);
 }

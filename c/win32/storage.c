@@ -1,3 +1,4 @@
+/* SPDX-License-Identifier: MIT OR Apache-2.0 */
 /* ---- Slots with a value for each thread: those of TlsAlloc, and those of FlsAlloc, which have a callback. A slot counts how often it was taken
  * and given back; a thread's value counts only if it is of the slot's present count. So a new slot is null in each thread. */
 

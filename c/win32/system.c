@@ -1,3 +1,4 @@
+/* SPDX-License-Identifier: MIT OR Apache-2.0 */
 /* ---- The library, the machine, and the time of day. */
 
 /* (c/kit/unproved defines it, in a dispatcher that it builds without proofs.) */
@@ -45,28 +46,44 @@ DWORD GetVersion(void)
     return MAJOR | MINOR << 8 | (DWORD)BUILD << 16;
 }
 
-/* What begins each of the longer structures is the shorter one. */
+/* The fields of a version; what begins each of the longer structures is the shorter one. The text has so many characters and bytes of them. */
+enum { CHARACTERS_OF_VERSION = sizeof(((OSVERSIONINFOA *)0)->szCSDVersion), LONGER = sizeof(OSVERSIONINFOEXA) - sizeof(OSVERSIONINFOA) };
+
+/* Writes the structure of this size, whose characters have so many bytes. False where it is none. */
+static bool write_version(void *to, DWORD size, size_t bytes)
+{
+    const OSVERSIONINFOA found = { size, MAJOR, MINOR, BUILD, VER_PLATFORM_WIN32_NT, "" };
+    const size_t text = CHARACTERS_OF_VERSION * bytes, begin = offsetof(OSVERSIONINFOA, szCSDVersion);
+    if (size != begin + text && size != begin + text + LONGER)
+        return false;
+    memset(to, 0, size);
+    memcpy(to, &found, begin);
+    if (size == begin + text + LONGER)
+        ((BYTE *)to)[begin + text + offsetof(OSVERSIONINFOEXA, wProductType) - sizeof found] = VER_NT_WORKSTATION;
+    return true;
+}
+
 BOOL GetVersionExA(LPOSVERSIONINFOA version)
 {
-    const OSVERSIONINFOEXA found = { version->dwOSVersionInfoSize, MAJOR, MINOR, BUILD, VER_PLATFORM_WIN32_NT, .wProductType = VER_NT_WORKSTATION };
-    if (version->dwOSVersionInfoSize != sizeof *version && version->dwOSVersionInfoSize != sizeof found)
-        return fail(ERROR_INSUFFICIENT_BUFFER);
-    memcpy(version, &found, version->dwOSVersionInfoSize);
-    return TRUE;
+    return write_version(version, version->dwOSVersionInfoSize, 1) || fail(ERROR_INSUFFICIENT_BUFFER);
 }
 
-NTSTATUS RtlGetVersion(PRTL_OSVERSIONINFOW version)
-{
-    const OSVERSIONINFOEXW found = { version->dwOSVersionInfoSize, MAJOR, MINOR, BUILD, VER_PLATFORM_WIN32_NT, .wProductType = VER_NT_WORKSTATION };
-    memcpy(version, &found, version->dwOSVersionInfoSize == sizeof found ? sizeof found : sizeof *version);
-    return 0;
-}
-
+/* (The characters of a program may have 16 bits: utf16.c.) */
 BOOL GetVersionExW(LPOSVERSIONINFOW version)
 {
-    if (version->dwOSVersionInfoSize != sizeof *version && version->dwOSVersionInfoSize != sizeof(OSVERSIONINFOEXW))
-        return fail(ERROR_INSUFFICIENT_BUFFER);
-    return RtlGetVersion(version) == 0;
+    const DWORD size = version->dwOSVersionInfoSize;
+    return write_version(version, size, sizeof(WCHAR)) || write_version(version, size, sizeof(uint16_t)) || fail(ERROR_INSUFFICIENT_BUFFER);
+}
+
+/* (Where the size is none, what each structure has is written.) */
+NTSTATUS RtlGetVersion(PRTL_OSVERSIONINFOW version)
+{
+    const DWORD size = version->dwOSVersionInfoSize;
+    if (!write_version(version, size, sizeof(WCHAR)) && !write_version(version, size, sizeof(uint16_t))) {
+        write_version(version, offsetof(OSVERSIONINFOA, szCSDVersion) + CHARACTERS_OF_VERSION * sizeof(uint16_t), sizeof(uint16_t));
+        version->dwOSVersionInfoSize = size;
+    }
+    return 0;
 }
 
 BOOL GlobalMemoryStatusEx(LPMEMORYSTATUSEX status)

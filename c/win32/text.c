@@ -1,3 +1,4 @@
+/* SPDX-License-Identifier: MIT OR Apache-2.0 */
 /* ---- Text in UTF-8 and in WCHAR, a character each. */
 
 #define NO_CHARACTER 0xFFFDu /* in the place of what is none */

@@ -1,3 +1,4 @@
+/* SPDX-License-Identifier: MIT OR Apache-2.0 */
 /* ---- What is told of a thread by its handle. */
 
 /* The thread that this handle names, with the lock taken; null, with the last error set and the lock given back, where it names none. (A list with a

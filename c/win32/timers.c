@@ -1,3 +1,4 @@
+/* SPDX-License-Identifier: MIT OR Apache-2.0 */
 /* ---- Timers with callbacks. They stand in a heap by the moment at which they are due; one thread sleeps to the first. */
 
 struct _TP_TIMER {
@@ -14,8 +15,8 @@ struct _TP_TIMER {
 static struct {
     PTP_TIMER *heap;                     /* from place 1 on */
     size_t count, made, room;            /* there is room for all that were made */
-    bool is_kept;                        /* the thread that keeps the time is there */
-    _Atomic uint32_t changes;            /* the word on which it sleeps */
+    bool is_kept;                        /* a thread was started that keeps the time, */
+    bool has_keeper;                     /* and it has begun to */
 } timers;
 
 static void place_timer(PTP_TIMER timer, size_t place)
@@ -63,78 +64,121 @@ static void put_timer(PTP_TIMER timer, uint64_t due)
     sift_timer(timer);
 }
 
+/* When a timer with a period that is due by now is due next: after that, however many periods have passed. */
+static uint64_t next_due_of(const struct _TP_TIMER *timer, uint64_t now)
+{
+    const uint64_t period = timer->period * (uint64_t)(MOMENTS_PER_SECOND / 1000);
+    return now + period - (now - timer->due) % period;
+}
+
 /* Calls the callbacks of those that are due, under the latch, which is given back meanwhile. */
 static void call_those_due(void)
 {
     const uint64_t now = monotonic();
     while (timers.count > 0 && timers.heap[1]->due <= now) {
         PTP_TIMER timer = timers.heap[1];
-        PTP_POOL pool = timer->task.pool;
-        const bool in_thread = timer->in_thread;
         timer->is_over = timer->period == 0;
         if (timer->is_over)
             drop_timer(timer);
         else
-            put_timer(timer, timer->due + timer->period * (uint64_t)(MOMENTS_PER_SECOND / 1000));
-        if (in_thread)
-            timer->task.running++;
-        else
-            put_callback(&timer->task, TIMED_OUT);
-        give_latch(&pools_latch);
-        if (in_thread)
-            run_callback(&timer->task, TIMED_OUT);
-        else
-            call_for_thread(pool);
+            put_timer(timer, next_due_of(timer, now));
+        call_back(&timer->task, TIMED_OUT, timer->in_thread);
         take_latch(&pools_latch);
     }
 }
 
+/* Tries again to have the threads that pools lack, under the latch, which is given back meanwhile. Answers whether one is still refused. */
+static bool bring_all_lacking(void)
+{
+    PTP_POOL pool = pools;
+    while (pool != NULL) {
+        if (pool->lacking == 0)
+            pool = pool->next;
+        else if (bring_lacking(pool))
+            pool = pools;
+        else
+            return true;
+    }
+    return false;
+}
+
+/* Keeps the time, and what threads pools lack. (Of two that were started together the second ends.) */
 static DWORD WINAPI keep_timers(LPVOID none)
 {
     (void)none;
     take_latch(&pools_latch);
-    for (;;) {
+    const bool is_second = timers.has_keeper;
+    timers.has_keeper = true;
+    while (!is_second) {
+        const bool is_refused = bring_all_lacking();
         call_those_due();
-        uint32_t changes = atomic_load_explicit(&timers.changes, memory_order_relaxed);
-        const DWORD ms = ms_to(timers.count > 0 ? timers.heap[1]->due : NEVER);
+        uint32_t calls = atomic_load_explicit(&keeper_calls, memory_order_relaxed);
+        DWORD ms = ms_to(timers.count > 0 ? timers.heap[1]->due : NEVER);
+        if (is_refused && ms > RETRY_MS)
+            ms = RETRY_MS;
         give_latch(&pools_latch);
         if (ms > 0)
-            wait_on(&timers.changes, &changes, sizeof changes, ms, OF_LIBRARY);
+            wait_on(&keeper_calls, &calls, sizeof calls, ms, OF_LIBRARY);
         take_latch(&pools_latch);
     }
+    give_latch(&pools_latch);
     return 0;
 }
 
-/* A timer more is there: sees to it that it has room in the heap and that a thread keeps the time. Answers 0, or why not. */
-static uint32_t keep_time(void)
+/* Makes room in the heap for one timer more. Answers whether there is. */
+static bool make_room(void)
 {
-    uint32_t refused = 0;
     take_latch(&pools_latch);
-    if (timers.made + 2 >= timers.room) {
+    bool is_room = timers.made + 2 < timers.room;
+    if (!is_room) {
         const size_t room = timers.room * 2 + 64;
         PTP_TIMER *heap = realloc(timers.heap, room * sizeof *heap);
-        refused = heap != NULL ? 0 : ERROR_NOT_ENOUGH_MEMORY;
-        if (heap != NULL) {
+        is_room = heap != NULL;
+        if (is_room) {
             timers.heap = heap;
             timers.room = room;
         }
     }
-    timers.made += refused == 0;
-    const bool is_first = refused == 0 && !timers.is_kept;
-    timers.is_kept |= is_first;
+    timers.made += is_room;
     give_latch(&pools_latch);
-    if (!is_first)
-        return refused;
-    HANDLE thread = CreateThread(NULL, 0, keep_timers, NULL, 0, NULL);
-    if (thread != NULL) {
-        CloseHandle(thread);
-        return 0;
-    }
+    return is_room;
+}
+
+static bool is_time_kept(void)
+{
     take_latch(&pools_latch);
-    timers.is_kept = false;
-    timers.made--;
+    const bool is_kept = timers.is_kept;
     give_latch(&pools_latch);
-    return own.last_error;
+    return is_kept;
+}
+
+/* Sees to it that a thread keeps the time. Answers 0, or why none does. */
+static uint32_t keep_time(void)
+{
+    if (is_time_kept())
+        return 0;
+    HANDLE thread = CreateThread(NULL, 0, keep_timers, NULL, 0, NULL);
+    if (thread == NULL) {
+        const uint32_t refused = own.last_error;
+        return is_time_kept() ? 0 : refused;
+    }
+    CloseHandle(thread);
+    take_latch(&pools_latch);
+    timers.is_kept = true;
+    give_latch(&pools_latch);
+    return 0;
+}
+
+/* A timer more is to be there: it has room in the heap, and a thread keeps the time. Answers 0, or why not. */
+static uint32_t admit_timer(void)
+{
+    if (!make_room())
+        return ERROR_NOT_ENOUGH_MEMORY;
+    const uint32_t refused = keep_time();
+    take_latch(&pools_latch);
+    timers.made -= refused != 0;
+    give_latch(&pools_latch);
+    return refused;
 }
 
 static void free_timer(struct task *task)
@@ -155,9 +199,9 @@ static void set_pool_timer(PTP_TIMER timer, uint64_t due, DWORD period)
         drop_timer(timer);
     else
         put_timer(timer, due);
-    atomic_fetch_add_explicit(&timers.changes, 1, memory_order_relaxed);
+    atomic_fetch_add_explicit(&keeper_calls, 1, memory_order_relaxed);
     give_latch(&pools_latch);
-    WakeByAddressAll((PVOID)&timers.changes);
+    WakeByAddressAll((PVOID)&keeper_calls);
 }
 
 static void stop_timer(struct task *task)
@@ -185,7 +229,7 @@ static PTP_TIMER make_timer(struct _TP_TIMER what, PVOID context, PTP_CALLBACK_E
         return NULL;
     }
     PTP_TIMER timer = malloc(sizeof *timer);
-    const uint32_t refused = timer != NULL ? keep_time() : ERROR_NOT_ENOUGH_MEMORY;
+    const uint32_t refused = timer != NULL ? admit_timer() : ERROR_NOT_ENOUGH_MEMORY;
     if (refused != 0) {
         free(timer);
         fail(refused);
@@ -271,49 +315,41 @@ BOOL DeleteTimerQueueTimer(HANDLE queue, HANDLE timer, HANDLE event)
     return end_task(&((PTP_TIMER)timer)->task, event);
 }
 
-/* A queue that is being deleted, and the event that is set then. */
-struct deletion {
-    HANDLE queue, event;
-};
-
-static DWORD WINAPI delete_queue(LPVOID at)
+/* No timer of the queue is due any more, and each is gone once its callbacks have ended, under the latch. Answers one that has none, or null. */
+static struct task *close_timers(PTP_CLEANUP_GROUP queue)
 {
-    const struct deletion deletion = *(struct deletion *)at;
-    free(at);
-    CloseThreadpoolCleanupGroupMembers(deletion.queue, FALSE, NULL);
-    free(deletion.queue);
-    if (deletion.event != NULL)
-        SetEvent(deletion.event);
-    return 0;
-}
-
-/* No timer of the queue is due any more. Answers whether one has callbacks. */
-static bool stop_queue(PTP_CLEANUP_GROUP queue)
-{
-    bool is_busy = false;
-    take_latch(&pools_latch);
+    struct task *idle = NULL;
     for (struct task *task = queue->first; task != NULL; task = task->later) {
         drop_timer((PTP_TIMER)(void *)task);
-        is_busy |= task->running > 0 || to_come(task) > 0;
+        task->is_closed = true;
+        if (task->running == 0 && to_come(task) == 0)
+            idle = task;
     }
-    give_latch(&pools_latch);
-    return is_busy;
+    return idle;
 }
 
 BOOL DeleteTimerQueueEx(HANDLE queue, HANDLE event)
 {
+    PTP_CLEANUP_GROUP group = queue;
     if (queue == NULL)
         return fail(ERROR_INVALID_HANDLE);
-    struct deletion *deletion = malloc(sizeof *deletion);
-    if (deletion == NULL)
-        return fail(ERROR_NOT_ENOUGH_MEMORY);
-    const bool waits = event == INVALID_HANDLE_VALUE;
-    *deletion = (struct deletion){ .queue = queue, .event = waits ? NULL : event };
-    if (!stop_queue(queue) || waits || !QueueUserWorkItem(delete_queue, deletion, 0)) {
-        delete_queue(deletion);
+    if (event == INVALID_HANDLE_VALUE) {
+        CloseThreadpoolCleanupGroupMembers(group, FALSE, NULL);
+        free(group);
         return TRUE;
     }
-    return fail(ERROR_IO_PENDING);
+    take_latch(&pools_latch);
+    for (struct task *idle; (idle = close_timers(group)) != NULL;) {
+        settle_task(idle);
+        take_latch(&pools_latch);
+    }
+    group->is_closed = true;
+    group->done = event;
+    const bool is_busy = group->first != NULL;
+    give_latch(&pools_latch);
+    if (!is_busy)
+        end_group(group);
+    return !is_busy || fail(ERROR_IO_PENDING);
 }
 
 BOOL DeleteTimerQueue(HANDLE queue)

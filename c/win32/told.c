@@ -1,3 +1,4 @@
+/* SPDX-License-Identifier: MIT OR Apache-2.0 */
 /* ---- Why threads wait that sleep beside the dispatcher: for a lock, on a condition variable or an address, at a barrier, for an initialization or for
  * callbacks. A thread that still looks before it sleeps is not told of. */
 

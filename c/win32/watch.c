@@ -1,3 +1,4 @@
+/* SPDX-License-Identifier: MIT OR Apache-2.0 */
 /* ---- Objects that are waited for on behalf of callbacks: each by a thread of a pool of its own. */
 
 /* A wait for an object. It is a task of the pool of those that watch, and gone once it has ended. */
@@ -5,19 +6,14 @@ struct watch {
     struct task task;
     struct task *told;     /* whose callbacks come of it */
     HANDLE object;
+    HANDLE stop;           /* an event: set once it is stopped */
     DWORD ms;
     uint64_t moment;       /* to which it waits at the longest, or NEVER */
     bool is_once, in_thread;
     bool is_stopped;       /* `told` is not touched any more */
-    HANDLE watcher;        /* the thread that waits; null before and after */
 };
 
-static void CALLBACK look_again(ULONG_PTR none)
-{
-    (void)none;
-}
-
-/* The object is not waited for any longer. */
+/* The object is not waited for any longer: what is signaled from now on stays so. */
 static void stop_watch(struct task *told)
 {
     take_latch(&pools_latch);
@@ -25,8 +21,7 @@ static void stop_watch(struct task *told)
     told->watch = NULL;
     if (watch != NULL) {
         watch->is_stopped = true;
-        if (watch->watcher != NULL)
-            QueueUserAPC(look_again, watch->watcher, 0);
+        SetEvent(watch->stop);
     }
     give_latch(&pools_latch);
 }
@@ -40,21 +35,12 @@ static bool tell_watched(struct watch *watch, uint32_t outcome)
         give_latch(&pools_latch);
         return false;
     }
-    const bool in_thread = watch->in_thread, goes_on = !watch->is_once;
-    PTP_POOL pool = told->pool;
+    const bool goes_on = !watch->is_once;
     if (!goes_on) {
         told->watch = NULL;
         watch->is_stopped = true;
     }
-    if (in_thread)
-        told->running++;
-    else
-        put_callback(told, outcome);
-    give_latch(&pools_latch);
-    if (in_thread)
-        run_callback(told, outcome);
-    else
-        call_for_thread(pool);
+    call_back(told, outcome, watch->in_thread);
     return goes_on;
 }
 
@@ -68,14 +54,14 @@ static DWORD ms_to(uint64_t moment)
     return left < INFINITE ? (DWORD)left : INFINITE - 1;
 }
 
-/* Waits once. Answers whether it goes on. */
+/* Waits once. Answers whether it goes on. (Of two that are signaled the first ends the wait, so that one that is stopped takes no signal. A pseudo
+ * handle stands in no list: what it names is not signaled while the thread that waits runs.) */
 static bool watch_once(struct watch *watch)
 {
-    const DWORD status = WaitForSingleObjectEx(watch->object, ms_to(watch->moment), TRUE);
-    take_latch(&pools_latch);
-    const bool is_stopped = watch->is_stopped;
-    give_latch(&pools_latch);
-    if (is_stopped || status == WAIT_FAILED)
+    const HANDLE stop_first[] = { watch->stop, watch->object };
+    const DWORD count = watch->object == CURRENT_PROCESS || watch->object == CURRENT_THREAD ? 1 : 2;
+    const DWORD status = WaitForMultipleObjectsEx(count, stop_first, FALSE, ms_to(watch->moment), TRUE);
+    if (status == WAIT_OBJECT_0 || status == WAIT_FAILED)
         return false;
     if (status == WAIT_IO_COMPLETION || (status == WAIT_TIMEOUT && ms_to(watch->moment) > 0))
         return true;
@@ -86,50 +72,56 @@ static bool watch_once(struct watch *watch)
 
 static void watch_object(struct task *task, PTP_CALLBACK_INSTANCE instance, uint32_t outcome)
 {
-    struct watch *watch = (struct watch *)(void *)task;
     (void)instance;
     (void)outcome;
-    if (handle_of_thread == NULL)
-        DuplicateHandle(CURRENT_PROCESS, CURRENT_THREAD, CURRENT_PROCESS, &handle_of_thread, 0, FALSE, DUPLICATE_SAME_ACCESS);
-    take_latch(&pools_latch);
-    watch->watcher = handle_of_thread;
-    const bool is_stopped = watch->is_stopped || handle_of_thread == NULL;
-    give_latch(&pools_latch);
-    while (!is_stopped && watch_once(watch))
+    while (watch_once((struct watch *)(void *)task))
         continue;
+}
+
+static void free_watch(struct task *task)
+{
+    struct watch *watch = (struct watch *)(void *)task;
     take_latch(&pools_latch);
-    watch->watcher = NULL;
-    if (!watch->is_stopped && watch->told->watch == watch)
+    if (!watch->is_stopped)
         watch->told->watch = NULL;
-    watch->is_stopped = true;
     give_latch(&pools_latch);
+    CloseHandle(watch->stop);
+    free(watch);
+}
+
+/* Puts a watch into the queue, where there is room for one more. Answers 0, or why not: then it is gone. */
+static uint32_t put_watch(struct watch *watch)
+{
+    take_latch(&pools_latch);
+    if (watching_pool.tasks == WATCHES) {
+        give_latch(&pools_latch);
+        free_watch(&watch->task);
+        return ERROR_NO_SYSTEM_RESOURCES;
+    }
+    watching_pool.tasks++;
+    watch->told->watch = watch;
+    return try_to_submit(&watch->task) ? 0 : own.last_error;
 }
 
 /* Has an object waited for. Answers 0, or why not. */
 static uint32_t begin_watch(struct task *told, const struct watch *how)
 {
+    const DWORD error = own.last_error;
     struct watch *watch = malloc(sizeof *watch);
     if (watch == NULL)
         return ERROR_NOT_ENOUGH_MEMORY;
     *watch = *how;
     watch->told = told;
-    watch->task = (struct task){ .call = watch_object, .end = free_task, .pool = &watching_pool, .is_closed = true };
-    take_latch(&pools_latch);
-    const bool is_room = watching_pool.tasks < WATCHES;
-    if (is_room) {
-        watching_pool.tasks++;
-        told->watch = watch;
-        put_callback(&watch->task, SIGNALED);
-    }
-    give_latch(&pools_latch);
-    if (!is_room) {
+    watch->task = (struct task){ .call = watch_object, .end = free_watch, .pool = &watching_pool, .is_closed = true };
+    watch->stop = CreateEvent(NULL, TRUE, FALSE, NULL);
+    if (watch->stop == NULL) {
         free(watch);
-        return ERROR_NO_SYSTEM_RESOURCES;
+        return own.last_error;
     }
-    if (call_for_thread(&watching_pool))
-        return 0;
-    const uint32_t refused = own.last_error;
-    stop_watch(told);
+    own.last_error = error;
+    const uint32_t refused = put_watch(watch);
+    if (refused != 0)
+        stop_watch(told);
     return refused;
 }
 
@@ -226,9 +218,11 @@ PTP_WAIT CreateThreadpoolWait(PTP_WAIT_CALLBACK callback, PVOID context, PTP_CAL
 /* The moment of the monotonic clock that such a time means: negative from now on, else in UTC. */
 static uint64_t moment_of_time(const FILETIME *time)
 {
-    const int64_t due = (int64_t)((uint64_t)time->dwHighDateTime << 32 | time->dwLowDateTime), now = (int64_t)monotonic();
-    const int64_t moment = due <= 0 ? now - due : now + (due - universal());
-    return moment > 0 ? (uint64_t)moment : 0;
+    const uint64_t due = (uint64_t)time->dwHighDateTime << 32 | time->dwLowDateTime, now = monotonic();
+    if ((int64_t)due <= 0)
+        return now + (0 - due);
+    const int64_t left = (int64_t)due - universal();
+    return left > 0 ? now + (uint64_t)left : now;
 }
 
 void SetThreadpoolWait(PTP_WAIT wait, HANDLE object, PFILETIME timeout)

@@ -77,7 +77,6 @@ static int yield_strand(void)
 /* (The system has no thread more now and then.) */
 #define pthread_create(thread, attributes, start, argument) ((void)(attributes), one_in(20) ? EAGAIN : create_strand(thread, start, argument))
 #define pthread_tryjoin_np(thread, value) join_strand(thread, EBUSY)
-#define pthread_timedjoin_np(thread, value, until) ((void)(until), join_strand(thread, ETIMEDOUT))
 #define pthread_self() ((pthread_t)(run.runs - run.strands))
 #define pthread_exit(value) end_strand()
 #define pthread_key_create(key, at_end) ((void)(key), run.destructor = (at_end), 0)

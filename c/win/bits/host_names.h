@@ -1,3 +1,4 @@
+/* SPDX-License-Identifier: MIT OR Apache-2.0 */
 /* (Between this and host_names_end.h the C library's types of threads have other names: a source for Windows may have its own of these names.) */
 #define pthread_t ntwin_host_pthread_t
 #define pthread_attr_t ntwin_host_pthread_attr_t

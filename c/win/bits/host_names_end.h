@@ -1,3 +1,4 @@
+/* SPDX-License-Identifier: MIT OR Apache-2.0 */
 #undef pthread_t
 #undef pthread_attr_t
 #undef pthread_mutex_t

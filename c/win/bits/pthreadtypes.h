@@ -1,3 +1,4 @@
+/* SPDX-License-Identifier: MIT OR Apache-2.0 */
 /* With _WIN32 the C library's types of threads do not come with <stdlib.h> and its like, as on Windows, but with <pthread.h> alone: a source
  * may have its own of these names. */
 #pragma GCC system_header

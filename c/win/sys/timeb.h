@@ -1,3 +1,4 @@
+/* SPDX-License-Identifier: MIT OR Apache-2.0 */
 /* The time of day in milliseconds, as the C runtime of Windows has it. */
 #ifndef NTWIN_SYS_TIMEB_H
 #define NTWIN_SYS_TIMEB_H

@@ -1,3 +1,4 @@
+// SPDX-License-Identifier: MIT OR Apache-2.0
 //! Alarms by place, with the earliest of them at hand.
 //!
 //! Which timer is due next? Which waiting thread times out first? A dispatcher asks after every tick, and may look neither at all timers nor

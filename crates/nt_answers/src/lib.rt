@@ -1,3 +1,4 @@
+// SPDX-License-Identifier: MIT OR Apache-2.0
 //! What calls answer, each in a type of its own.
 //!
 //! The dispatcher answers every call by one type, `Reply`. Each kind of call tells the same part of it: a creation a handle, a wait its

@@ -50,3 +50,7 @@ impl Timeout {
         }
     }
 }
+
+const _: () = prove!(Timeout::INFINITE.0 == u32::MAX);
+
+const _: () = prove!(Timeout::ZERO.0 == 0);

@@ -1,3 +1,4 @@
+// SPDX-License-Identifier: MIT OR Apache-2.0
 //! Asynchronous procedure calls that wait for their thread.
 //!
 //! An APC is a routine and its argument, queued to a thread, which takes it once it waits alertably. The queue of each thread is first in,

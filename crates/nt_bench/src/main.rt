@@ -1,3 +1,4 @@
+// SPDX-License-Identifier: MIT OR Apache-2.0
 //! `nt_bench [ROUNDS [SHAPE]]` makes the same calls on the core round by round, and prints for each shape how many calls and
 //! grants a round has, and with ROUNDS the picoseconds of a call. SHAPE, which counts from 0, runs that one alone.
 #![tactic(auto)]

@@ -1,3 +1,4 @@
+// SPDX-License-Identifier: MIT OR Apache-2.0
 //! The dispatcher for callers in C: a static library, whose header is `c/nt.h`.
 //!
 //! A caller in C has numbers and pointers, and no type keeps its promises. So each export takes numbers, makes one call of the

@@ -1,3 +1,4 @@
+// SPDX-License-Identifier: MIT OR Apache-2.0
 //! The calls that threads make of a dispatcher, what each does, and what refuses it.
 //!
 //! What a call has to do is said in `specs/`, and nothing of it is said by code: `State` is the whole machine as plain data, `Step` an

@@ -1,3 +1,4 @@
+// SPDX-License-Identifier: MIT OR Apache-2.0
 //! What a command line asks for, and what its commands do.
 //!
 //! A program has words, files and two outputs, and answers one number. Between them nothing may get lost: a script that could not be read to its
@@ -10,7 +11,7 @@
 //!          +--> usage, 2
 //! ```
 //!
-//! [`carry_out`] does all of it, generic in the files and outputs, so tests give it ones that fail.
+//! [`carry_out`] does all of it. What it calls is generic in the files and outputs, so tests give [`script_over`] and [`threads_over`] ones that fail.
 #![tactic(auto)]
 
 mod commands;

@@ -1,3 +1,4 @@
+// SPDX-License-Identifier: MIT OR Apache-2.0
 //! The dispatcher for one thread: objects, waits, and the calls on them.
 //!
 //! Threads share objects, and wait until objects let them go on. A `Core` is told one call after another, each with the thread that makes

@@ -1,3 +1,4 @@
+// SPDX-License-Identifier: MIT OR Apache-2.0
 //! The calls of a dispatcher, each with an answer of its own.
 //!
 //! `Core::call` takes every call as a value and answers every call by one type, so that calls can be kept, sent and made again. Whoever

@@ -1,3 +1,4 @@
+// SPDX-License-Identifier: MIT OR Apache-2.0
 //! Readers and writers that count their failures.
 //!
 //! Any read, write or flush may fail. Whoever promises "a failure is always reported" has to speak of failures, and a reader or writer keeps

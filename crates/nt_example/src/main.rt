@@ -1,3 +1,4 @@
+// SPDX-License-Identifier: MIT OR Apache-2.0
 //! Three guest threads on one dispatcher, driven as an emulator drives them. `docs/EMBEDDING.md` goes through it.
 #![tactic(auto)]
 

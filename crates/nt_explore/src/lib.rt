@@ -1,3 +1,4 @@
+// SPDX-License-Identifier: MIT OR Apache-2.0
 //! Every order in which threads may make the calls that each of them has to make, one after another.
 //!
 //! A hang often shows in one order of a program's calls only. So all orders are tried: each thread keeps the order of its own calls

@@ -1,3 +1,4 @@
+// SPDX-License-Identifier: MIT OR Apache-2.0
 //! Where a script's fault stands, and what can stand there, for whoever wrote it.
 //!
 //! The transcript of a script needs only the name of its first fault. A reader wants more: which word it is, what may have been meant, and which words are

@@ -1,3 +1,4 @@
+// SPDX-License-Identifier: MIT OR Apache-2.0
 //! The smallest program: one thread waits, and another ends its wait. `docs/EMBEDDING.md` begins with it.
 #![tactic(auto)]
 

@@ -25,6 +25,8 @@ use std::mem::ManuallyDrop;
 /// The most entries that a journal may have room for.
 pub const MAX_ROOM: usize = 1_048_576;
 
+const _: () = prove!(MAX_ROOM == 0x10_0000);
+
 /// A front that no name stands for yet.
 pub struct Blank {
     mail: Mail,

@@ -28,10 +28,12 @@ use std::mem;
 
 /// The dispatcher, its journal with the dispatcher that it begins at, and the seat that knows all entries. Only `open` makes one.
 ///
+/// It lies behind the lock, and a front's calls reach it. It is public for its contracts: they say in full what becomes of dispatcher and journal.
+///
 /// Its type keeps that the dispatcher is lawful, and that the journal is a run which leads from its base to this very state, or, if it
 /// lasts, a life.
 #[derive(Drop)]
-pub(crate) struct Book<N: Named> {
+pub struct Book<N: Named> {
     pub(crate) life: Lasting,
     base: Core,
     pub(crate) first: u64,
@@ -64,7 +66,7 @@ impl<N: Named> Book<N> {
     /// Refused with JournalFull where the room left is too small for an entry and one more for each pending wait; nothing changes
     /// then. Every other answer of the dispatcher is written, a refusal too.
     #[inline(always)]
-    pub(crate) fn call(
+    pub fn call(
         &mut self,
         mail: &Mail,
         caller: &mut Hold<N>,
@@ -112,7 +114,7 @@ impl<N: Named> Book<N> {
     /// Makes a tick by the thread of this hold, and writes it with the waits that it ended. Answers whom they wake, too.
     ///
     /// Refused with JournalFull as a call is.
-    pub(crate) fn tick(
+    pub fn tick(
         &mut self,
         mail: &Mail,
         caller: &mut Hold<N>,
@@ -163,7 +165,7 @@ impl<N: Named> Book<N> {
     /// Hands out the entries since the base, with the base. From then on a copy of the dispatcher is the base, and no entry stands.
     ///
     /// Refused with 8 where memory is refused; nothing changes then. It writes no entry, and looks at the mail once.
-    pub(crate) fn rotate(&mut self, mail: &Mail, caller: &mut Hold<N>) -> Result<Part, Refusal>
+    pub fn rotate(&mut self, mail: &Mail, caller: &mut Hold<N>) -> Result<Part, Refusal>
         requires mail { mail.now ≡ N.front.table }
         ensures part { IfOk result (λ part. HandsOut self.old part self.new) }
         ensures told { IfOk result (λ part. WasHandedOut N.front caller.old part) }
@@ -248,7 +250,7 @@ impl<N: Named> Book<N> {
     }
 
     /// The dispatcher is lawful and the journal leads to its state, now as ever; there is nothing to do for it.
-    pub(crate) fn stands(&self)
+    pub fn stands(&self)
         ensures { Stands self.now }
     {
         let _ = &self.life;

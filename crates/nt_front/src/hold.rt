@@ -21,7 +21,7 @@ const TRIES: u64 = 2;
 /// What every hold has: the thread's seat, the greatest moment that the thread knows, and how many calls and ticks it made.
 ///
 /// Contracts see it, and each hold, as what the thread knows.
-pub(crate) struct Hold<N: Named> {
+pub struct Hold<N: Named> {
     pub(crate) floor: Moment,
     pub(crate) calls: u64,
     /// How often it looks for its next grant before it sleeps. Contracts don't see it.
@@ -46,14 +46,14 @@ impl<N: Named> Model for Hold<N> {
 
 impl<N: Named> Hold<N> {
     /// The thread's number.
-    pub(crate) fn thread(&self) -> ThreadId
+    pub fn thread(&self) -> ThreadId
         ensures { result ≡ self.now.thread }
     {
         self.seat.thread()
     }
 
     /// How many calls and ticks of the thread were written.
-    pub(crate) fn calls(&self) -> u64
+    pub fn calls(&self) -> u64
         ensures { result ≡ length self.now.made }
     {
         self.calls

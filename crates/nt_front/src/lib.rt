@@ -1,3 +1,4 @@
+// SPDX-License-Identifier: MIT OR Apache-2.0
 //! The dispatcher behind one lock, for the threads of a process.
 //!
 //! Whoever takes the lock finds a lawful dispatcher, and beside it the journal: each call and tick with its answer, and each wait
@@ -66,3 +67,8 @@ pub use nt_mail::{Entry, PackedEntry, ReadEntry};
 pub use polls::Polled;
 pub use receipt::{History, Part, Receipt};
 pub use waits::Waited;
+
+// What lies behind the lock.
+pub use book::Book;
+pub use hold::Hold;
+pub use wake::ToWake;

@@ -45,7 +45,7 @@ fn mark_all(grants: &[Grant]) -> FewMarks
 }
 
 /// The threads that a call or tick granted, all of which are to be woken. It must be spent: `Bells::ring` wakes them.
-pub(crate) struct ToWake {
+pub struct ToWake {
     marks: Option<FewMarks>,
 }
 

@@ -1,3 +1,4 @@
+// SPDX-License-Identifier: MIT OR Apache-2.0
 //! `nt_front_bench [SHAPE ROUNDS]` makes the same calls on the front over and over. With no word it makes a few rounds of each
 //! shape, and prints how many calls and grants those were. With two it times one shape: first on a journal whose memory was never
 //! touched, and then on one that was.

@@ -1,3 +1,4 @@
+// SPDX-License-Identifier: MIT OR Apache-2.0
 //! The calls of a front, each with an answer of its own.
 //!
 //! `Front` takes every call as a value and answers every call by one type, so that the journal can keep them. Who writes the calls of a

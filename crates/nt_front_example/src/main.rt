@@ -1,3 +1,4 @@
+// SPDX-License-Identifier: MIT OR Apache-2.0
 //! Four threads that block, on one front: a clock, one that hands out work, and two that do it. `docs/EMBEDDING.md` goes through it.
 #![tactic(auto)]
 

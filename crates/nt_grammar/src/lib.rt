@@ -1,3 +1,4 @@
+// SPDX-License-Identifier: MIT OR Apache-2.0
 //! What a line of a script says.
 //!
 //! A line is words, and each word stands in a place: who calls, which call it is, and then a place for each thing that the call is given. A table

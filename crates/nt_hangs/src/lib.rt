@@ -1,3 +1,4 @@
+// SPDX-License-Identifier: MIT OR Apache-2.0
 //! Why the threads of a script wait, as text.
 //!
 //! A script is run up to a line, and each line is seen: since which line a thread waits, and which object a name was given to.

@@ -1,3 +1,4 @@
+// SPDX-License-Identifier: MIT OR Apache-2.0
 //! The laws of the dispatcher: what its definitions come to, said of every run in the subject's own words.
 //!
 //! `nt_core` says what one call and one tick do (`Called`, `Ticked`). A **run** is calls and ticks, each with its result and its

@@ -1,3 +1,4 @@
+// SPDX-License-Identifier: MIT OR Apache-2.0
 //! A dispatcher for a program that has no end.
 //!
 //! A dispatcher hands out 65,536 handle numbers, and then refuses each creation with HandleLimit. A program that makes an event for each

@@ -15,6 +15,8 @@ use std::marker::Model;
 /// The most bytes in a line, without the LF that ends it.
 pub const MAX_LINE: usize = 4096;
 
+const _: () = prove!(MAX_LINE == 4_096);
+
 /// How much is read at once.
 const CHUNK: usize = 65536;
 

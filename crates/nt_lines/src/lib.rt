@@ -1,3 +1,4 @@
+// SPDX-License-Identifier: MIT OR Apache-2.0
 //! The lines of a text, and the words, numbers and names in them.
 //!
 //! A script comes from a file, a pipe or a terminal, a piece at a time, and any piece may be the last or fail. [`Input`] makes lines of the pieces:

@@ -1,3 +1,4 @@
+// SPDX-License-Identifier: MIT OR Apache-2.0
 //! Why threads wait, and whether anything can end it.
 //!
 //! A program hangs where a wait pends that nothing ends. Two cases are told by the dispatcher alone, without a look at the program:

@@ -1,3 +1,4 @@
+// SPDX-License-Identifier: MIT OR Apache-2.0
 //! What a command line of `ntlook` asks for, and what its commands do.
 //!
 //! The first word is a command, and the words after it are a FILE, and options with a value each, in any order ([`look_of`]). A command's

@@ -1,3 +1,4 @@
+// SPDX-License-Identifier: MIT OR Apache-2.0
 //! Replies without the lock: how a thread learns that its wait was granted, and which entries of the journal are its own.
 //!
 //! The dispatcher works under one lock and writes what happens into a journal: an entry for each call, each tick and each grant,

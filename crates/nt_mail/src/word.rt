@@ -15,6 +15,10 @@ pub const ENTRY_LIMIT: u64 = 1 << 54;
 // A word has no other bits.
 const _: () = prove!(ENTRY_LIMIT - 1 == u64::MAX / STATES);
 
+const _: () = prove!(STATES == 1_024);
+
+const _: () = prove!(ENTRY_LIMIT == 18_014_398_509_481_984);
+
 /// A thread's reply word: the number of an entry of the thread, and how its wait stands.
 #[derive(Clone, Copy, PartialEq, Eq, Debug)]
 pub enum Word {

@@ -1,3 +1,4 @@
+// SPDX-License-Identifier: MIT OR Apache-2.0
 //! A set of numbers as bits: a mark for each place, with the lowest marked place at hand.
 //!
 //! Which objects changed, so that waits on them are to be looked at? Which threads may have to be alerted? A dispatcher asks after every

@@ -1,3 +1,4 @@
+// SPDX-License-Identifier: MIT OR Apache-2.0
 //! Every order of a script's lines, as text: whether one hangs, and which.
 //!
 //! A script is one order of its threads' calls. Here its lines are a plan: what stands at the head, creations alone, is made first; then each

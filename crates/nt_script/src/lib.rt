@@ -1,3 +1,4 @@
+// SPDX-License-Identifier: MIT OR Apache-2.0
 //! Scripts to transcripts.
 //!
 //! A script is a text of calls, a line each; its transcript says what each call answered and which waits it ended. To write one is a fold over

@@ -1,3 +1,4 @@
+// SPDX-License-Identifier: MIT OR Apache-2.0
 //! Who sleeps to which moment, so that no timeout and no timer waits for a thread that nobody woke.
 //!
 //! A thread whose wait pends sleeps, and is woken when its wait ends. It sleeps by itself no longer than to its own deadline, and then lets

@@ -1,3 +1,4 @@
+// SPDX-License-Identifier: MIT OR Apache-2.0
 //! The words in which calls are made and answered: statuses, refusals, flags, rights, and numbers of threads, handles and moments.
 //!
 //! Win32 has a number of 32 bits for nearly everything: a wait's status, why a call failed, a handle, a set of flags. Mixed up, they still

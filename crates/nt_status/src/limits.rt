@@ -20,3 +20,16 @@ pub const MAX_MOMENT: u64 = 1 << 62;
 
 /// INFINITE: the timeout without a deadline. Other timeouts are in milliseconds.
 pub const INFINITE: u32 = 0xFFFF_FFFF;
+
+// Contracts cite these by their names, so each name's number stands here a second time: who changes one is refused.
+const _: () = prove!(MAX_THREADS == 256);
+
+const _: () = prove!(MAX_MANY_THREADS == 4_096);
+
+const _: () = prove!(MAX_HANDLES == 65_536);
+
+const _: () = prove!(MAX_WAIT_OBJECTS == 64);
+
+const _: () = prove!(MAX_MOMENT == 4_611_686_018_427_387_904);
+
+const _: () = prove!(INFINITE == u32::MAX);

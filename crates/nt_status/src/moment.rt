@@ -6,6 +6,8 @@ use std::marker::Model;
 /// The units of 100 ns of a millisecond.
 pub const UNITS_PER_MS: u64 = 10_000;
 
+const _: () = prove!(UNITS_PER_MS == 10_000);
+
 /// A moment, in units of 100 ns since the dispatcher's moment 0. The greatest is `MAX_MOMENT`.
 #[derive(Clone, Copy, PartialEq, Eq, PartialOrd, Ord, Debug)]
 pub struct Moment(u64);

@@ -1,3 +1,4 @@
+// SPDX-License-Identifier: MIT OR Apache-2.0
 //! What each handle names, the objects by number, and for each thread the mutexes that it owns.
 //!
 //! A **handle** is a place in a table, which has the number of an object and the rights that the handle has over it. Several handles may name one

@@ -1,3 +1,4 @@
+// SPDX-License-Identifier: MIT OR Apache-2.0
 //! The plan of the program's threads: real threads that share a mutex, a semaphore and an event.
 //!
 //! Scripts show what the dispatcher does by itself. This shows that threads which really run, sleep and wake come to what it promises: each of n

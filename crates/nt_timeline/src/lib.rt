@@ -1,3 +1,4 @@
+// SPDX-License-Identifier: MIT OR Apache-2.0
 //! The run of a script as a timeline: in text, a column for each thread; as a picture, a lane for each.
 //!
 //! A script is run line by line, and of each line that calls or ticks a step is kept: who called, what it answered, which waits it ended

@@ -1,3 +1,4 @@
+// SPDX-License-Identifier: MIT OR Apache-2.0
 //! The pending waits of all threads: which threads wait, for what, and in which order for each object.
 //!
 //! Two questions are asked of pending waits all the time. What does this thread wait for? Who waits for this object, and whose wait began

@@ -1,3 +1,4 @@
+// SPDX-License-Identifier: MIT OR Apache-2.0
 //! A call that was made, as the line of a script.
 //!
 //! A run can be looked at and made again if its calls are written down. A script can hold them: each call is the line that reads as that call,

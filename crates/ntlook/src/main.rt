@@ -1,3 +1,4 @@
+// SPDX-License-Identifier: MIT OR Apache-2.0
 //! `ntlook why FILE [--at LINE]` runs a script and reports why its threads wait.
 #![tactic(auto)]
 

@@ -1,3 +1,4 @@
+// SPDX-License-Identifier: MIT OR Apache-2.0
 //! `ntrun script FILE` runs a script to standard output, and `ntrun threads N ROUNDS` runs real threads and tells of them.
 #![tactic(auto)]
 

@@ -1,3 +1,4 @@
+/* SPDX-License-Identifier: MIT OR Apache-2.0 */
 /* (As bits/pthreadtypes.h.) */
 #pragma GCC system_header
 #if defined _WIN32 && !defined NTWIN_GIVES_THREADS

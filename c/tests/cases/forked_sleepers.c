@@ -1,0 +1,210 @@
+/* Within 30 s, unsanitized: 45 passed, 0 failed.
+ *
+ * A child is forked beside threads that sleep on a condition variable, at an address or for an SRW lock, and have made no other call: in the child nobody
+ * waits there but who does so in it, and no latch is taken. (Under a sanitizer no thread can be made in a child that was forked beside others.) */
+#include "case.h"
+
+enum { CHILDREN = 40 };
+
+static SRWLOCK lock = SRWLOCK_INIT, wanted = SRWLOCK_INIT;
+static CONDITION_VARIABLE variable = CONDITION_VARIABLE_INIT;
+static LONG word, is_up, is_open, stops, woken;
+
+/* How the child ended that does this: its exit status, or 1000 and the signal. */
+static int forked(int (*does)(void))
+{
+    int status;
+    const pid_t child = fork();
+    must(child >= 0);
+    if (child == 0) {
+        alarm(5);
+        _exit(does());
+    }
+    must(waitpid(child, &status, 0) == child);
+    return WIFSIGNALED(status) ? 1000 + WTERMSIG(status) : WEXITSTATUS(status);
+}
+
+static void *sleeps_on_variable(void *ms)
+{
+    AcquireSRWLockExclusive(&lock);
+    raise_flag(&is_up);
+    while (is_open == 0)
+        if (!SleepConditionVariableSRW(&variable, &lock, (DWORD)(uintptr_t)ms, 0))
+            break;
+    ReleaseSRWLockExclusive(&lock);
+    raise_flag(&woken);
+    return NULL;
+}
+
+static void *waits_at_address(void *none)
+{
+    LONG zero = 0;
+    raise_flag(&is_up);
+    while (InterlockedExchangeAdd(&word, 0) == 0)
+        WaitOnAddress(&word, &zero, sizeof zero, INFINITE);
+    raise_flag(&woken);
+    return none;
+}
+
+static void *wants_alone(void *none)
+{
+    raise_flag(&is_up);
+    AcquireSRWLockExclusive(&wanted);
+    ReleaseSRWLockExclusive(&wanted);
+    return none;
+}
+
+static void *wants_to_share(void *none)
+{
+    raise_flag(&is_up);
+    AcquireSRWLockShared(&wanted);
+    ReleaseSRWLockShared(&wanted);
+    return none;
+}
+
+/* Begins a thread, and waits until it sleeps. */
+static pthread_t begun(void *(*does)(void *))
+{
+    pthread_t thread;
+    InterlockedExchange(&is_up, 0);
+    must(pthread_create(&thread, NULL, does, (void *)(uintptr_t)INFINITE) == 0);
+    await(&is_up);
+    rest_ms(30);
+    return thread;
+}
+
+static void open_gate(void)
+{
+    AcquireSRWLockExclusive(&lock);
+    is_open = 1;
+    ReleaseSRWLockExclusive(&lock);
+}
+
+/* One wake wakes the only thread that sleeps here. */
+static int wakes_on_variable(void)
+{
+    const pthread_t mine = begun(sleeps_on_variable);
+    open_gate();
+    WakeConditionVariable(&variable);
+    return pthread_join(mine, NULL);
+}
+
+static int wakes_at_address(void)
+{
+    const pthread_t mine = begun(waits_at_address);
+    InterlockedExchange(&word, 1);
+    WakeByAddressSingle(&word);
+    return pthread_join(mine, NULL);
+}
+
+/* The caller had the lock at the fork. */
+static int gives_lock(void)
+{
+    ReleaseSRWLockExclusive(&wanted);
+    if (!TryAcquireSRWLockShared(&wanted) || !TryAcquireSRWLockShared(&wanted))
+        return 1;
+    ReleaseSRWLockShared(&wanted);
+    ReleaseSRWLockShared(&wanted);
+    if (!TryAcquireSRWLockExclusive(&wanted))
+        return 2;
+    ReleaseSRWLockExclusive(&wanted);
+    return wanted.Ptr == NULL ? 0 : 3;
+}
+
+static void *calls(void *none)
+{
+    LONG one = 1, zero = 0, mine = 0;
+    while (InterlockedExchangeAdd(&stops, 0) == 0) {
+        WaitOnAddress(&mine, &one, sizeof one, 0);
+        WaitOnAddress(&mine, &zero, sizeof zero, 0);
+        WakeByAddressAll(&mine);
+    }
+    return none;
+}
+
+/* It waits at as many addresses as there are lists, and more. */
+static int waits_everywhere(void)
+{
+    static LONG words[4096];
+    LONG zero = 0;
+    for (int i = 0; i < 4096; i++) {
+        if (WaitOnAddress(&words[i], &zero, sizeof zero, 0) || GetLastError() != ERROR_TIMEOUT)
+            return 1;
+        WakeByAddressAll(&words[i]);
+    }
+    return 0;
+}
+
+static volatile pid_t forked_by_handler = -1;
+
+static void *wakes_the_handlers(void *none)
+{
+    open_gate();
+    WakeConditionVariable(&variable);
+    return none;
+}
+
+static void on_signal(int signal)
+{
+    pthread_t thread;
+    (void)signal;
+    forked_by_handler = fork();
+    if (forked_by_handler == 0) {
+        alarm(5);
+        must(pthread_create(&thread, NULL, wakes_the_handlers, NULL) == 0);
+    }
+}
+
+static void *sleeps_and_forks(void *ms)
+{
+    sleeps_on_variable(ms);
+    if (forked_by_handler == 0)
+        _exit(is_open == 1 ? 0 : 1);
+    return NULL;
+}
+
+/* A thread that sleeps forks in a handler: in the child it sleeps on, and is woken. */
+static void fork_as_sleeper(void)
+{
+    int status;
+    const pthread_t sleeper = begun(sleeps_and_forks);
+    must(signal(SIGUSR1, on_signal) != SIG_ERR && pthread_kill(sleeper, SIGUSR1) == 0);
+    rest_ms(50);
+    open_gate();
+    WakeAllConditionVariable(&variable);
+    must(pthread_join(sleeper, NULL) == 0);
+    IS(waitpid(forked_by_handler, &status, 0), forked_by_handler);
+    IS(status, 0);
+}
+
+int main(void)
+{
+    pthread_t threads[6];
+    fork_as_sleeper();
+    is_open = 0;
+    threads[0] = begun(sleeps_on_variable);
+    threads[1] = begun(sleeps_on_variable);
+    IS(forked(wakes_on_variable), 0);
+    open_gate();
+    WakeAllConditionVariable(&variable);
+    threads[2] = begun(waits_at_address);
+    threads[3] = begun(waits_at_address);
+    IS(forked(wakes_at_address), 0);
+    InterlockedExchange(&word, 1);
+    WakeByAddressAll(&word);
+    AcquireSRWLockExclusive(&wanted);
+    threads[4] = begun(wants_alone);
+    threads[5] = begun(wants_to_share);
+    IS(forked(gives_lock), 0);
+    ReleaseSRWLockExclusive(&wanted);
+    for (int i = 0; i < 6; i++)
+        must(pthread_join(threads[i], NULL) == 0);
+    for (int i = 0; i < 4; i++)
+        must(pthread_create(&threads[i], NULL, calls, NULL) == 0);
+    for (int i = 0; i < CHILDREN; i++)
+        IS(forked(waits_everywhere), 0);
+    raise_flag(&stops);
+    for (int i = 0; i < 4; i++)
+        must(pthread_join(threads[i], NULL) == 0);
+    return counted();
+}

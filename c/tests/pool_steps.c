@@ -1,0 +1,348 @@
+/* Pairs of a call of the pool and a counter-call, in each window of one instruction (step.h): what the library has freed, since a callback or the
+ * program closed it, is not touched again; each callback comes once; and nobody waits in vain. */
+#define _GNU_SOURCE
+#include <stdbool.h>
+#include <stddef.h>
+static void *take_page(size_t size);
+static void give_page(void *at);
+static bool is_full; /* the system has no thread more */
+#define LOOKS_AT_LOCK 1
+#define LOOKS_AT_WORD 1
+#define WAITS_PER_TRY 4096
+#define RETRY_MS 1
+#include "../ntwin/inside.h"
+#define malloc(size) take_page(size)
+#define calloc(count, size) take_page((count) * (size))
+#define free(at) give_page(at)
+#define pthread_create(thread, attributes, start, argument) (is_full ? EAGAIN : (pthread_create)(thread, attributes, start, argument))
+#include "../ntwin.c"
+#undef malloc
+#undef calloc
+#undef free
+#undef pthread_create
+
+#define counted counted_checks /* (ntwin.c has another.) */
+#include "check.h"
+#include "step.h"
+
+enum { PAGE = 4096 };
+static const size_t MOST_PAGES = 1 << 20;
+
+/* ---- What the library allocates has a page of its own, which is taken away for good when it is freed. */
+
+static char *pages;
+static _Atomic size_t taken;
+static PTP_POOL pool;
+static _Atomic bool is_pool_gone;
+static _Atomic long touches; /* after that */
+
+static void *take_page(size_t size)
+{
+    char *at = pages + atomic_fetch_add(&taken, 1) * PAGE;
+    must(size <= PAGE && at < pages + MOST_PAGES * PAGE && mprotect(at, PAGE, PROT_READ | PROT_WRITE) == 0);
+    return at;
+}
+
+static void give_page(void *at)
+{
+    if (at != NULL && at == pool)
+        is_pool_gone = true;
+    if ((char *)at >= pages && (char *)at < pages + MOST_PAGES * PAGE)
+        must(mprotect(at, PAGE, PROT_NONE) == 0);
+    else
+        free(at);
+}
+
+static void on_touch(int signal, siginfo_t *info, void *context)
+{
+    char *at = (char *)((uintptr_t)info->si_addr & ~(uintptr_t)(PAGE - 1));
+    (void)signal, (void)context;
+    if (at < pages || at >= pages + MOST_PAGES * PAGE)
+        _exit(3);
+    touches++;
+    if (mprotect(at, PAGE, PROT_READ | PROT_WRITE) != 0)
+        _exit(4);
+}
+
+static const char *pair;
+static long number;
+
+static void on_hang(int signal)
+{
+    char line[128];
+    (void)signal;
+    const int length = snprintf(line, sizeof line, "c/tests/pool_steps.c: %s: it hangs at instruction %ld\n", pair, number);
+    _exit(write(STDOUT_FILENO, line, (size_t)length) < 0 ? 6 : 5);
+}
+
+/* Tries the pair at each instruction. At least so many are the call's own. */
+static void try_pair(const char *name, act *prepare, act *call, act *other, act *finish, long least)
+{
+    bool came = true;
+    long touched = 0;
+    pair = name;
+    for (number = 0; came; number++) {
+        alarm(20);
+        touches = 0;
+        prepare();
+        came = step(call, other, number);
+        finish();
+        if (touches > 0 && touched++ == 0)
+            printf("c/tests/pool_steps.c: %s: memory that was freed is touched after a stop at instruction %ld\n", name, number);
+    }
+    IS(touched, 0);
+    IS(number >= least, true);
+    alarm(0);
+}
+
+/* ---- A pool of one thread, which is in a callback until it may go on. What it takes up then closes all: so the pool is gone with that thread. */
+
+static TP_CALLBACK_ENVIRON environment;
+static PTP_WORK first, closing;
+static PTP_TIMER timer;
+static PTP_WAIT wait_object;
+static _Atomic bool is_busy, may_go_on;
+static _Atomic LONG ran;
+
+static void CALLBACK be_busy(PTP_CALLBACK_INSTANCE instance, PVOID none, PTP_WORK work)
+{
+    (void)instance, (void)none;
+    is_busy = true;
+    while (!may_go_on)
+        doze();
+    CloseThreadpoolWork(work);
+}
+
+static void CALLBACK close_work_and_pool(PTP_CALLBACK_INSTANCE instance, PVOID none, PTP_WORK work)
+{
+    (void)instance, (void)none;
+    CloseThreadpoolWork(work);
+    CloseThreadpool(pool);
+    ran++;
+}
+
+static void CALLBACK close_timer_and_pool(PTP_CALLBACK_INSTANCE instance, PVOID none, PTP_TIMER its_timer)
+{
+    (void)instance, (void)none;
+    CloseThreadpoolTimer(its_timer);
+    CloseThreadpool(pool);
+    ran++;
+}
+
+static void CALLBACK close_wait_and_pool(PTP_CALLBACK_INSTANCE instance, PVOID none, PTP_WAIT wait, TP_WAIT_RESULT result)
+{
+    (void)instance, (void)none, (void)result;
+    CloseThreadpoolWait(wait);
+    CloseThreadpool(pool);
+    ran++;
+}
+
+static void open_pool(void)
+{
+    pool = CreateThreadpool(NULL);
+    SetThreadpoolThreadMaximum(pool, 1);
+    InitializeThreadpoolEnvironment(&environment);
+    SetThreadpoolCallbackPool(&environment, pool);
+    is_busy = may_go_on = is_pool_gone = false;
+    ran = 0;
+}
+
+static void busy_pool(void)
+{
+    open_pool();
+    first = CreateThreadpoolWork(be_busy, NULL, &environment);
+    SubmitThreadpoolWork(first);
+    while (!is_busy)
+        doze();
+}
+
+/* The thread goes on. It is done with the pool after a while, where it could take up what the call puts. */
+static void go_on(void)
+{
+    may_go_on = true;
+    for (int i = 0; i < 100 && !is_pool_gone; i++)
+        doze();
+}
+
+static void pool_is_gone(void)
+{
+    while (!is_pool_gone)
+        doze();
+    IS(ran, 1);
+}
+
+/* ---- Work, a timer and a wait bring that callback. */
+
+static void with_work(void)
+{
+    busy_pool();
+    closing = CreateThreadpoolWork(close_work_and_pool, NULL, &environment);
+}
+
+static void submit_closing(void)
+{
+    SubmitThreadpoolWork(closing);
+}
+
+static void with_timer(void)
+{
+    FILETIME at_once = { 0, 0 };
+    busy_pool();
+    timer = CreateThreadpoolTimer(close_timer_and_pool, NULL, &environment);
+    SetThreadpoolTimer(timer, &at_once, 0, 0);
+}
+
+static void let_timer_come(void)
+{
+    take_latch(&pools_latch);
+    call_those_due();
+    give_latch(&pools_latch);
+}
+
+static struct watch watch;
+
+static void with_wait(void)
+{
+    busy_pool();
+    wait_object = CreateThreadpoolWait(close_wait_and_pool, NULL, &environment);
+    watch = (struct watch){ .told = &wait_object->task, .is_once = true };
+    wait_object->task.watch = &watch;
+}
+
+static void let_wait_end(void)
+{
+    tell_watched(&watch, SIGNALED);
+}
+
+static void callbacks_that_close(void)
+{
+    try_pair("SubmitThreadpoolWork, whose callback closes the pool", with_work, submit_closing, go_on, pool_is_gone, 50);
+    try_pair("a timer, whose callback closes the pool", with_timer, let_timer_come, go_on, pool_is_gone, 50);
+    try_pair("a wait, whose callback closes the pool", with_wait, let_wait_end, go_on, pool_is_gone, 50);
+}
+
+/* ---- A thread of the pool, beside who waits for its callback and closes all. */
+
+static void CALLBACK run(PTP_CALLBACK_INSTANCE instance, PVOID none, PTP_WORK work)
+{
+    (void)instance, (void)none, (void)work;
+    ran++;
+}
+
+/* (The thread is the one that is stepped.) */
+static void with_queue(void)
+{
+    open_pool();
+    first = CreateThreadpoolWork(run, NULL, &environment);
+    pool->threads = 1;
+    SubmitThreadpoolWork(first);
+}
+
+static void be_thread_of_pool(void)
+{
+    work_in_pool(pool);
+}
+
+static void wait_and_close(void)
+{
+    WaitForThreadpoolWorkCallbacks(first, FALSE);
+    CloseThreadpoolWork(first);
+    CloseThreadpool(pool);
+}
+
+/* ---- A callback that is submitted to a group, beside who closes its members. */
+
+static PTP_CLEANUP_GROUP group;
+static _Atomic LONG submitted;
+
+static void CALLBACK run_simple(PTP_CALLBACK_INSTANCE instance, PVOID none)
+{
+    (void)instance, (void)none;
+    ran++;
+}
+
+static void with_group(void)
+{
+    open_pool();
+    must(is_full || SetThreadpoolThreadMinimum(pool, 1));
+    group = CreateThreadpoolCleanupGroup();
+    SetThreadpoolCallbackCleanupGroup(&environment, group, NULL);
+}
+
+static void submit_to_group(void)
+{
+    submitted = TrySubmitThreadpoolCallback(run_simple, NULL, &environment);
+}
+
+static void close_members(void)
+{
+    CloseThreadpoolCleanupGroupMembers(group, FALSE, NULL);
+}
+
+static void group_has_run(void)
+{
+    close_members();
+    IS(submitted, !is_full);
+    IS(ran, !is_full);
+    CloseThreadpoolCleanupGroup(group);
+    CloseThreadpool(pool);
+    while (!is_pool_gone)
+        doze();
+}
+
+/* ---- A registered wait that is stopped, beside a signal. */
+
+static HANDLE event, registered;
+
+static void CALLBACK note_wait(PVOID none, BOOLEAN timed_out)
+{
+    (void)none, (void)timed_out;
+    ran++;
+}
+
+static void with_registered(void)
+{
+    ran = 0;
+    must(RegisterWaitForSingleObject(&registered, event, note_wait, NULL, INFINITE, 0));
+}
+
+static void unregister(void)
+{
+    must(UnregisterWaitEx(registered, INVALID_HANDLE_VALUE));
+}
+
+static void signal_once(void)
+{
+    SetEvent(event);
+}
+
+/* What is signaled after the call stays so. */
+static void later_signal_stays(void)
+{
+    const LONG seen = ran;
+    IS(seen <= 1, true);
+    SetEvent(event);
+    doze();
+    IS(WaitForSingleObject(event, 0), WAIT_OBJECT_0);
+    IS(ran, seen);
+}
+
+int main(void)
+{
+    struct sigaction touch = { .sa_sigaction = on_touch, .sa_flags = SA_SIGINFO }, hang = { .sa_handler = on_hang };
+    must(sigaction(SIGSEGV, &touch, NULL) == 0 && sigaction(SIGALRM, &hang, NULL) == 0);
+    pages = mmap(NULL, MOST_PAGES * PAGE, PROT_NONE, MAP_PRIVATE | MAP_ANONYMOUS | MAP_NORESERVE, -1, 0);
+    must(pages != MAP_FAILED && (event = CreateEvent(NULL, FALSE, FALSE, NULL)) != NULL);
+    /* (The test keeps the time.) */
+    timers.is_kept = true;
+    setvbuf(stdout, NULL, _IOLBF, 0);
+    begin_stepping();
+    callbacks_that_close();
+    try_pair("a thread of a pool", with_queue, be_thread_of_pool, wait_and_close, pool_is_gone, 100);
+    try_pair("TrySubmitThreadpoolCallback", with_group, submit_to_group, close_members, group_has_run, 50);
+    is_full = true;
+    try_pair("TrySubmitThreadpoolCallback, without a thread", with_group, submit_to_group, close_members, group_has_run, 100);
+    is_full = false;
+    try_pair("UnregisterWaitEx", with_registered, unregister, signal_once, later_signal_stays, 50);
+    return counted_checks();
+}

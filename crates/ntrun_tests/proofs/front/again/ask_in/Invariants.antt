@@ -1,4 +1,0 @@
-use Rattle.ntrun_tests.proofs.front.again.ask_in.Given as goal
-
-abbrev pub ghosts-ask_on : goal.ghosts-ask_on
-ghosts-ask_on g a = record { front = a.blank }

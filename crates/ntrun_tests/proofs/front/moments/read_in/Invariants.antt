@@ -1,4 +1,0 @@
-use Rattle.ntrun_tests.proofs.front.moments.read_in.Given as goal
-
-abbrev pub ghosts-read_of : goal.ghosts-read_of
-ghosts-read_of g a = record { front = a.blank }

@@ -1,4 +1,0 @@
-use Rattle.ntrun_tests.proofs.front.runs.man_all.Given as goal
-
-abbrev pub ghosts-man : goal.ghosts-man
-ghosts-man g a = record { front = a.blank }

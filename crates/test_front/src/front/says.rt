@@ -1,0 +1,146 @@
+//! What a thread of a front is answered, as data.
+
+use nt_front_calls::{Apc, Refused, Told, WaitEnd};
+use nt_status::{Handle, Status};
+
+/// An answer. Refusals and statuses have their numbers.
+#[derive(Clone, Copy, PartialEq, Eq, Debug)]
+pub enum Answer {
+    Done,
+    Handle(u32),
+    Previous(i32),
+    /// The routine and its argument.
+    Apc(u64, u64),
+    NoApc,
+    /// The wait ended with this status, at once or by a grant that was looked for.
+    Ended(u32),
+    /// It pended, and a grant ended it with this status.
+    Granted(u32),
+    Pended,
+    /// No grant was found.
+    Still,
+    Refused(u32),
+    /// The journal was full, and nothing was written.
+    Full,
+    /// A list of handles found no memory.
+    NoMemory,
+    /// The thread's place is not free, and nothing was written.
+    Taken,
+    /// So many entries are in the part, of which the first is the number of the answer.
+    Entries(usize),
+    /// The moment that a pass reads.
+    Moment(u64),
+    /// What the thread holds does not let it ask for this.
+    Nothing,
+}
+
+/// An answer, and the number of its entry; 0 for what is not written.
+#[derive(Clone, Copy, PartialEq, Eq, Debug)]
+pub struct Said {
+    pub entry: u64,
+    pub answer: Answer,
+}
+
+impl Said {
+    pub const NOTHING: Said = Said {
+        entry: 0,
+        answer: Answer::Nothing,
+    };
+
+    pub const STILL: Said = Said {
+        entry: 0,
+        answer: Answer::Still,
+    };
+
+    /// What is answered, of which nothing was written.
+    pub fn unwritten(answer: Answer) -> Said {
+        Said { entry: 0, answer }
+    }
+
+    pub fn pended(entry: u64) -> Said {
+        Said {
+            entry,
+            answer: Answer::Pended,
+        }
+    }
+
+    pub fn ended(told: Told<Status>) -> Said {
+        Said {
+            entry: told.entry,
+            answer: Answer::Ended(told.answer.code()),
+        }
+    }
+
+    pub fn refused(refused: Refused) -> Said {
+        match refused {
+            Refused::Call { entry, refusal } => Said {
+                entry,
+                answer: Answer::Refused(refusal.number()),
+            },
+            Refused::JournalFull => Said {
+                entry: 0,
+                answer: Answer::Full,
+            },
+            Refused::NoMemory => Said {
+                entry: 0,
+                answer: Answer::NoMemory,
+            },
+        }
+    }
+}
+
+pub fn said_done(answer: Result<Told<()>, Refused>) -> Said {
+    match answer {
+        Ok(told) => Said {
+            entry: told.entry,
+            answer: Answer::Done,
+        },
+        Err(refused) => Said::refused(refused),
+    }
+}
+
+pub fn said_handle(answer: Result<Told<Handle>, Refused>) -> Said {
+    match answer {
+        Ok(told) => Said {
+            entry: told.entry,
+            answer: Answer::Handle(told.answer.get()),
+        },
+        Err(refused) => Said::refused(refused),
+    }
+}
+
+pub fn said_previous(answer: Result<Told<i32>, Refused>) -> Said {
+    match answer {
+        Ok(told) => Said {
+            entry: told.entry,
+            answer: Answer::Previous(told.answer),
+        },
+        Err(refused) => Said::refused(refused),
+    }
+}
+
+pub fn said_apc(answer: Result<Told<Option<Apc>>, Refused>) -> Said {
+    match answer {
+        Ok(told) => Said {
+            entry: told.entry,
+            answer: match told.answer {
+                Some(apc) => Answer::Apc(apc.routine, apc.arg),
+                None => Answer::NoApc,
+            },
+        },
+        Err(refused) => Said::refused(refused),
+    }
+}
+
+pub fn said_end(answer: Result<WaitEnd, Refused>) -> Said {
+    match answer {
+        Ok(end) => Said {
+            entry: end.entry,
+            answer: match end.granted {
+                Some(_) => Answer::Granted(end.status.code()),
+                None => Answer::Ended(end.status.code()),
+            },
+        },
+        Err(refused) => Said::refused(refused),
+    }
+}

@@ -1,0 +1,219 @@
+"""The gate's tests of itself: made-up scenes, each with something wrong that the gate must see. They come first, and end the run where one fails."""
+import contextlib
+import functools
+import glob
+import os
+import re
+import shutil
+import subprocess
+import sys
+import tempfile
+import unittest.mock
+
+import kit
+import steps
+import telling
+from command import Said, why_no_proof_of_tests, why_not_proved
+from crates import crates_of
+from edits import edits_in
+from kept import sum_of_kit_of
+from judging import judge_alone, judge_round
+from progress import Progress
+from sources import functions_of
+
+TOP = os.path.dirname(os.path.dirname(os.path.realpath(__file__)))
+PROVED, REFUSED = "logic=proved functions=1\n", "note: src/lib.rt:3:1: it is not proved that it gives 1\nlogic=not-proved functions=1\n"
+# Stands for the command rt: it says what lies in src/VERB of the crate where it is called, ends with the status in src/VERB.status, and makes what rt would
+# make. Of a text that has the word `wrong` it says what lies in src/refused. Each call is noted.
+RT = """#!/bin/sh
+say() {
+    while IFS= read -r line; do echo "$line"; done < "$1"
+}
+echo "$*" >> "$CALLED"
+[ -d out/rlib ] || [ "$1" = version ] || mkdir -p out/incremental out/rlib
+verb=$1
+case $* in
+version) echo "$KIT"; exit 0 ;;
+*--only*) echo only=0 proved=0; exit "$READS" ;;
+lib*) echo built > out/rlib/built ;;
+run*) printf '#!/bin/sh\\necho 9\\n' > "out/${PWD##*/}"; chmod +x "out/${PWD##*/}" ;;
+test*) printf '#!/bin/sh\\n[ "$1" = --list ] && echo "one: test" && exit; exit "$TEST"\\n' > "out/${PWD##*/}_tests"; chmod +x "out/${PWD##*/}_tests" ;;
+esac
+echo work > out/incremental/work
+[ ! -f src/lib.rt ] || case $(say src/lib.rt) in *wrong*) verb=refused ;; esac
+if [ -f "src/$verb" ]; then say "src/$verb"; else echo 'logic=proved functions=1'; fi
+[ ! -f "src/$verb.status" ] || exit "$(say "src/$verb.status")"
+"""
+# The tree of a scene: a library with one mutant, a program over it, its tests, and a crate that only measures.
+FILES = {
+    "crates.txt": "low:\napp: low\nrows: low\nlow_bench: low\n",
+    "HANDLES": "Handles allowed: none.\n",
+    "crates/low/src/lib.rt": "pub fn one() -> usize\n{\n    1\n}\n\npub fn two() -> usize\n{\n    2\n}\n",
+    "crates/low/src/lib": f"crate low: modules loaded=100 checked=0\n{PROVED}",
+    "crates/low/src/refused": REFUSED,
+    "crates/low/src/refused.status": "1\n",
+    "crates/app/src/main.rt": "fn main() {}\n",
+    "crates/app/stdout": "9\n",
+    "crates/low_bench/src/main.rt": "fn main() {}\n",
+    "crates/low_bench/stdout": "9\n",
+    "crates/rows/src/lib.rt": "#[cfg(test)]\nmod tests;\n",
+    "crates/rows/src/tests.rt": "#[test]\nfn one() {}\n",
+    "crates/rows/src/test": f"{PROVED[:-1]} tests=1\n",
+    "mutants/low.edits": "# gives_another\nfile: src/lib.rt\nold:     1\nnew:     wrong\n",
+    "mutants/private/low.edits": "",
+}
+# What a check may end with and say, none of which shows that a crate is proved.
+NOT_PROVED = [(0, ""), (0, "logic=not-proved functions=1"), (1, PROVED), (-9, PROVED), (0, f"warning: no call of `low::one` can be made\n{PROVED}")]
+NOT_PROVED += [(0, f"{PROVED[:-1]} {it}") for it in ("hides=1", "bugs=1", "foreign=1", "may-abort=1", "unheard-of=1", "main=Net", "may-wait=1")]
+# The same of tests.
+NOT_PASSED = [(0, PROVED), (1, f"{PROVED[:-1]} tests=1"), (-9, f"{PROVED[:-1]} tests=1"), (0, f"{PROVED[:-1]} tests=0"), (0, f"{PROVED[:-1]} tests=1 bugs=1")]
+# What a check of a mutant may end with, none of which refuses it.
+NOT_REFUSED = [(0, PROVED), (0, REFUSED), (1, ""), (2, REFUSED), (3, REFUSED), (-9, REFUSED), (1, f"src/lib.rt:3:5: error: no such name\n{REFUSED}")]
+# What must not pass as a step.
+NO_STEPS = ["echo 3 passed, 0 failed; exit 1", "echo 3 passed, 0 failed; kill -9 $$", "echo 3 passed, 1 failed", "echo 2 passed, 0 failed"]
+NO_STEPS += ["echo 0 passed, 0 failed", "exit 2"]
+# What the gate calls where it runs as a whole, beside the fake rt and Python: other tools are lacking there.
+CALLED = ("sh", "env", "git", "mkdir", "chmod")
+
+
+def write(path, text, mode=0o644):
+    os.makedirs(os.path.dirname(path), exist_ok=True)
+    with open(path, "w", encoding="utf-8") as file:
+        file.write(text)
+    os.chmod(path, mode)
+
+
+def write_tree(folder, **changes):
+    """Writes the tree of a scene into this folder, with these files of its library otherwise."""
+    shutil.rmtree(f"{folder}/crates", ignore_errors=True)
+    changed = {f"crates/low/src/{name.replace('_', '.')}": text for name, text in changes.items()}
+    for path, text in {**FILES, **changed}.items():
+        write(f"{folder}/{path}", text)
+
+
+def ran(folder, is_all=False, beside=None, **changes):
+    """Runs the proofs and mutants of a scene, with these files of its library and these `beside` it otherwise; returns what was counted, what failed,
+    what was told, and how many checks there were."""
+    write_tree(f"{folder}/tree", **changes)
+    for path, text in (beside or {}).items():
+        write(f"{folder}/tree/{path}", text)
+    write(os.environ["CALLED"], "")
+    with open(f"{folder}/told", "w+", encoding="utf-8") as told:
+        found = steps.proofs_and_mutants(f"{folder}/tree", f"{folder}/rooms", is_all, Progress(out=told))
+        told.seek(0)
+        text = told.read()
+    with open(os.environ["CALLED"], encoding="utf-8") as calls:
+        return found.passed, sorted(found.failed), text, len(re.findall("(?m)^check --jobs", calls.read()))
+
+
+def judged(folder):
+    """What a tool says is judged."""
+    yield not why_not_proved(Said(0, PROVED, 0), []) and not why_no_proof_of_tests(Said(0, f"{PROVED[:-1]} tests=1", 0), [])
+    yield from (why_not_proved(Said(*it, 0), []) for it in NOT_PROVED)
+    yield from (why_no_proof_of_tests(Said(*it, 0), []) for it in NOT_PASSED)
+    yield judge_alone(Said(1, REFUSED, 0), {})[0]
+    yield from (not judge_alone(Said(*it, 0), {})[0] for it in NOT_REFUSED)
+    write_tree(f"{folder}/tree")
+    write(f"{folder}/tree/mutants/low.edits", f"{FILES['mutants/low.edits']}\n# gives_three\nfile: src/lib.rt\nold:     2\nnew:     3\n")
+    crate, edits = next(iter(edits_in(f"{folder}/tree")[0].items()))
+    functions = functions_of(crate)
+    for it in edits:
+        it.find(functions)
+    said = f"{REFUSED}fn low::one: not proved\nfn low::two: proved\nonly=2 proved=1\n"
+    yield [it.name for it in judge_round(Said(1, said, 0), edits, functions, {}, {})[0]] == ["low/gives_another"]
+    yield judge_round(Said(0, said, 0), edits, functions, {}, {})[0] == []
+
+
+def not_proved(folder):
+    """A crate that is not proved fails, with what is above it and what is run of it; and none of that is kept."""
+    for _ in range(2):
+        passed, failed, *_ = ran(folder, check="logic=not-proved functions=1\n")
+        yield (passed, failed) == (0, ["app", "low", "low_bench", "rows"])
+    yield ran(folder, lib_status="1\n")[1] == ["app", "low", "low_bench", "rows"]
+    for _ in range(2):
+        yield ran(folder, beside={"crates/app/stdout": "8\n"})[1] == ["app"]
+        yield ran(folder, beside={"crates/rows/src/test.status": "1\n"})[1] == ["rows"]
+        os.environ["READS"] = "1"
+        yield ran(folder, beside={"crates/low_bench/src/main.rt": "fn main() { gone() }\n"})[1] == ["low_bench"]
+        os.environ["READS"] = "0"
+
+
+def kept(folder):
+    """What was kept is taken where nothing changed, and else not."""
+    passed, failed, said, checks = ran(folder)
+    yield (passed, failed, checks) == (5, [], 4)
+    passed, failed, said, checks = ran(folder)
+    yield (passed, failed, checks) == (5, [], 0) and "4 of 4 crates were taken as earlier runs kept them, and 1 refusals" in said
+    yield ran(folder, is_all=True)[::3] == (5, 4)
+    yield ran(folder, beside={"crates.txt": FILES["crates.txt"].replace("app: low", "app: low itoa")})[::3] == (5, 1)
+    yield ran(folder, beside={"HANDLES": "Handles allowed: Wait.\n"})[::3] == (5, 3)
+    yield ran(folder, lib_rt=f"// One.\n{FILES['crates/low/src/lib.rt']}")[::3] == (5, 4)
+    at = f"{os.environ['XDG_CACHE_HOME']}/kawhopune/kept/low"
+    for path, text in (("out/rlib/built", "bui"), ("out/rlib/more", ""), ("noted", '{"held"')):
+        for it in os.listdir(at):
+            write(f"{at}/{it}/{path}", text)
+        passed, failed, said, checks = ran(folder)
+        yield (passed, failed, checks) == (5, [], 1) and "low: what was kept of it was changed or cut short" in said
+    os.environ["TEST"] = "1"
+    yield ran(folder)[1] == ["rows"]
+    os.environ["TEST"] = "0"
+    # (the mutant is proved from here on)
+    for _ in range(2):
+        passed, failed, *_ = ran(folder, refused=PROVED, refused_status="0\n")
+        yield (passed, failed) == (4, ["low/gives_another"])
+    yield ran(folder, check="logic=not-proved functions=1\n")[1] == ["app", "low", "low_bench", "rows"]
+    os.environ["KIT"] = "another kit"
+    sum_of_kit_of.cache_clear()
+    yield ran(folder)[::3] == (5, 4)
+
+
+def told(folder):
+    """Each step that failed is told as failed, and the gate's status with it; what writes other bytes than its file fails."""
+    write(f"{folder}/tree/ntrun", "#!/bin/sh\necho one\nexit $1\n", 0o755)
+    write(f"{folder}/tree/examples/a.nts", "threads 1\n")
+    for wrote, status, is_right in (("one\n", "0", True), ("other\n", "0", False), ("", "0", False), ("one\n", "1", False)):
+        write(f"{folder}/tree/examples/a.transcript", wrote)
+        yield (not steps.example(f"{folder}/tree", f"{folder}/tree/examples/a.nts", ["./ntrun", status], ".transcript", (0,))) == is_right
+    with open(os.devnull, "w", encoding="utf-8") as nowhere, unittest.mock.patch.object(telling, "Progress", functools.partial(Progress, out=nowhere)):
+        write(f"{folder}/{telling.LEAST}", "a scene: 3\n")
+        for words in ["echo 3 passed, 0 failed", *NO_STEPS]:
+            gate = telling.Gate(folder, "scene")
+            gate.step("a scene", steps.command(folder, "sh", "-c", words))
+            yield gate.end() == (1 if words in NO_STEPS else 0)
+
+
+def as_a_whole(folder):
+    """The gate ends with status 1 where a crate is not proved, and names the tools that are lacking."""
+    write_tree(f"{folder}/copy", check="logic=not-proved functions=1\n")
+    for it in [*glob.glob(f"{TOP}/proving/*.py"), *glob.glob(f"{TOP}/mutants/*.py"), f"{TOP}/launcher/kit.py", f"{TOP}/tests/failures.py", f"{TOP}/gate"]:
+        os.makedirs(os.path.dirname(f"{folder}/copy/{os.path.relpath(it, TOP)}"), exist_ok=True)
+        shutil.copy(it, f"{folder}/copy/{os.path.relpath(it, TOP)}")
+    write(f"{folder}/copy/proving/scenes.py", "from telling import Step\n\n\ndef run(_):\n    return Step(1)\n")
+    for it in CALLED:
+        os.symlink(shutil.which(it), f"{folder}/bin/{it}")
+    os.symlink(sys.executable, f"{folder}/bin/python3")
+    how = {"cwd": f"{folder}/copy", "env": {**os.environ, "PATH": f"{folder}/bin", "TMPDIR": folder}, "stdin": subprocess.DEVNULL}
+    how |= {"capture_output": True, "text": True, "check": False, "errors": "replace"}
+    for words in (["init", "-q"], ["add", "-A"], ["-c", "user.name=a", "-c", "user.email=a@b", "commit", "-qm", "a scene"]):
+        subprocess.run(["git", *words], **how)
+    ended = subprocess.run(["./gate"], **how)
+    yield ended.returncode == 1 and re.search(r"\n\d+ passed, [1-9]\d* failed\n$", ended.stdout) and "proofs, tests, programs and mutants: low\n" in ended.stdout
+    yield "this machine lacks valgrind" in ended.stdout and "this machine lacks gcc" in ended.stdout
+
+
+def run(progress):
+    """Runs the scenes, each in a folder of its own, with nothing of this machine's kit and of what is kept."""
+    passed, failed = 0, []
+    for scene in (judged, not_proved, kept, told, as_a_whole):
+        with tempfile.TemporaryDirectory() as folder, contextlib.ExitStack() as stack:
+            write(f"{folder}/bin/rt", RT, 0o755)
+            stack.enter_context(unittest.mock.patch.dict(os.environ, {"XDG_CACHE_HOME": f"{folder}/cache", "CALLED": f"{folder}/called", "KIT": "a kit of scenes", "TEST": "0", "READS": "0"}))
+            stack.enter_context(unittest.mock.patch.object(kit, "find_rt", lambda folder=folder: f"{folder}/bin/rt"))
+            for number, holds in enumerate(scene(folder), 1):
+                passed += bool(holds)
+                failed += [] if holds else [f"{scene.__name__}, {number}: {scene.__doc__}"]
+    if failed:
+        # (what would count these may be at fault itself)
+        progress.tell("".join(f"failed: the gate itself: {it}\n" for it in failed) + f"{passed} passed, {len(failed)} failed")
+        raise SystemExit(1)
+    return telling.Step(passed)
