@@ -220,7 +220,9 @@ class Beside:
         if looks is not None:
             said += wanted(self.life, self.names, f"names {looks}", self.played.number)[2]
         self.note(line, answer, grants, handles)
-        return [] if said == found + named else [f"turn: {line}", *(f"the machine: {it}" for it in said), *(f"the program: {it}" for it in found + named)]
+        if said == found + named:
+            return []
+        return [f"turn: {line}", *(f"the machine: {it}" for it in said), *(f"the program: {it}" for it in found + named)]
 
     def note(self, line, answer, grants, handles):
         self.tally.note(line, answer, grants)

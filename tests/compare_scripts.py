@@ -6,7 +6,7 @@ import random
 from machine import CONTEXT, MODIFY, SYNCHRONIZE, Machine, Mutex, kind_of, signaled
 from orders import Names, lines_of
 
-CREATIONS = ("event e", "event e manual", "event e set", "event e manual set", "mutex m", "mutex m owned", "mutex m owned", "timer x", "timer x manual")
+CREATIONS = ("event e", "event e manual", "event e set", "event e manual set", *["mutex m owned"] * 2, "mutex m", "timer x", "timer x manual")
 COUNTS = [(0, 1), (0, 3), (2, 2), (1, 5), (0, 2147483647)] * 3 + [(3, 2), (0, 0), (-1, 2)]
 RIGHTS = (0, 0, SYNCHRONIZE, SYNCHRONIZE, MODIFY, SYNCHRONIZE | MODIFY, SYNCHRONIZE | CONTEXT, CONTEXT, 1, 0xFFFFFFFF)
 RELEASES = [1] * 6 + [2] * 3 + [3, 0, -1, 2147483647]
@@ -15,12 +15,13 @@ DUES = [-20000, -10000, -5000, -1, 0, 0] * 4 + [-(1 << 63), (1 << 63) - 1]
 PERIODS = [0] * 6 + [1] * 4 + [2, 7, -1, 2147483647]
 STEPS = (0, 1, 4999, 5000, 10000, 10000, 20000, 70000)
 
-# Each kind of answer and of ended wait must have come, whatever else did. Not among them: a mutex that its owner holds 2147483647 deep, and all
-# 65,536 handles, which no script of some length comes to.
+# Each kind of answer and of ended wait must have come. Not among them: a mutex that its owner holds 2147483647 deep, and all 65,536 handles, which
+# no script of some length comes to.
 SIGNALS = {"set": "5 6", "reset": "5 6", "pulse": "5 6", "unlock": "6 288", "arm": "5 6 87", "cancel": "5 6", "apc": "5 6 31", "close": "6", "exit": ""}
 WAITS = {"any": "5 6 87", "all": "5 6 87", "swap": "5 6 288 298"}
 WANTED = {
-    *(f"{keyword}: {it}" for keyword, numbers in SIGNALS.items() for it in ("ok", *(f"error {it}" for it in numbers.split()))),
+    *(f"{keyword}: ok" for keyword in SIGNALS),
+    *(f"{keyword}: error {it}" for keyword, numbers in SIGNALS.items() for it in numbers.split()),
     *(f"{keyword}: {it}" for keyword in WAITS for it in ("object", "abandoned", "APCs", "time is over", "pending")),
     *(f"{keyword}: error {it}" for keyword, numbers in WAITS.items() for it in numbers.split()),
     *(f"{keyword} ends: {it}" for keyword in WAITS for it in ("object", "abandoned", "APCs", "time is over")),
@@ -142,7 +143,8 @@ class Draw:
 
     def time(self, who):
         """(The first thread mostly waits for nothing: so there is one that calls.)"""
-        time = "0" if who == 0 and (self.is_crowd or self.rng.random() < 0.9) else self.rng.choice(["inf"] * 40 + TIMES if self.is_crowd else TIMES)
+        waits = who or not self.is_crowd and self.rng.random() < 0.1
+        time = self.rng.choice(["inf"] * 40 + TIMES if self.is_crowd else TIMES) if waits else "0"
         return f"{time} {self.rng.choice(['plain', 'alertable'])}"
 
     def creation(self, _who):
@@ -186,8 +188,9 @@ class Draw:
 
     def unset(self, who):
         """A handle of an object that is not signaled, mostly."""
-        found = [at for at in self.handles() if not signaled(self.machine.objects[self.machine.handles[at][0]], who)]
-        return str(self.rng.choice(found)) if found and self.rng.random() < 0.8 else self.word()
+        objects, handles = self.machine.objects, self.machine.handles
+        found = [it for it in self.handles("event", "semaphore", "mutex", "timer") if not signaled(objects[handles[it][0]], who)]
+        return str(self.rng.choice(found[:3])) if found and self.rng.random() < 0.9 else self.word()
 
     def swap(self, who):
         signal = self.word(*([self.rng.choice(["event", "semaphore", "mutex"])] if self.rng.random() < 0.95 else []))
@@ -223,19 +226,21 @@ class Draw:
         return f"tick {min(1 << 62, self.machine.now + self.rng.choice(STEPS))}" if self.rng.random() < 0.995 else f"tick {1 << 62}"
 
     KINDS = (
-        *[creation] * 10, *[duplicate] * 4, *[close] * 3, *[signal] * 10, *[release] * 5, *[unlock] * 6, *[wait] * 20, *[swap] * 6, *[sleep] * 4, *[apc] * 6,
-        *[next] * 4, *[arm] * 9, *[cancel] * 3, *[exit] * 3, *[tick] * 8,
+        *[creation] * 10, *[duplicate] * 4, *[close] * 3, *[signal] * 10, *[release] * 5, *[unlock] * 6, *[wait] * 20, *[swap] * 6,
+        *[sleep] * 4, *[apc] * 6, *[next] * 4, *[arm] * 9, *[cancel] * 3, *[exit] * 3, *[tick] * 8,
     )  # fmt: skip
 
     IN_A_CROWD = (
-        *[creation] * 4, duplicate, close, *[signal] * 10, *[release] * 5, *[unlock] * 6, *[wait] * 25, *[swap] * 3, sleep, *[apc] * 2, next, *[arm] * 5,
-        *[exit] * 2, *[tick] * 3,
+        *[creation] * 4, duplicate, close, *[signal] * 10, *[release] * 5, *[unlock] * 6, *[wait] * 25, *[swap] * 3,
+        sleep, *[apc] * 2, next, *[arm] * 5, *[exit] * 2, *[tick] * 3,
     )  # fmt: skip
     # What a line of this kind is for: mostly it is made only where such an object is there.
     NEEDS = {signal: "event", release: "semaphore", unlock: "mutex", arm: "timer", cancel: "timer"}
 
     def line(self):
         kind = self.rng.choice(self.IN_A_CROWD if self.is_crowd else self.KINDS)
+        if self.is_crowd and len(self.machine.waits) > 4 and self.rng.random() < 0.5:
+            kind = self.rng.choice([Draw.signal, Draw.signal, Draw.release, Draw.unlock, Draw.arm, Draw.tick, Draw.exit])
         if kind in self.NEEDS and not self.handles(self.NEEDS[kind]) and self.rng.random() < 0.9:
             kind = Draw.creation
         if kind is Draw.tick or not self.callers():
