@@ -11,7 +11,8 @@
 //!          +--> usage, 2
 //! ```
 //!
-//! [`carry_out`] does all of it. What it calls is generic in the files and outputs, so tests give [`script_over`] and [`threads_over`] ones that fail.
+//! [`carry_out`] does all of it. What it calls is generic in the files and outputs, so tests give [`script_over`] and
+//! [`threads_over`] ones that fail.
 #![tactic(auto)]
 
 mod commands;

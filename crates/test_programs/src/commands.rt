@@ -2,7 +2,7 @@
 
 use crate::devices::Room;
 use crate::expect::expect;
-use crate::ran::{Command, Machine, run};
+use crate::ran::{Command, run};
 use crate::refused::{Host, is_refusing, tell_refused};
 use nt_commands::{Plan, PlanFault, plan_of};
 use std::alloc::{AllocError, Global};

@@ -4,7 +4,7 @@
 use crate::devices::{Given, Room, Taken};
 use crate::expect::{expect, expect_at};
 use crate::ran::{Command, Machine, Ran, run};
-use crate::refused::{Host, is_refusing, tell_refused};
+use crate::refused::{Host, is_refusing};
 use nt_lines::number_of;
 use nt_script::{Counted, RunFault, Summary};
 use std::alloc::{AllocError, Global};
