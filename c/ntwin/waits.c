@@ -112,11 +112,17 @@ __attribute__((noinline, cold)) static DWORD fail_wait(struct seat *seat, uint32
     return WAIT_FAILED;
 }
 
-/* What a wait answers that pends: its status, once it is granted. The caller's APCs run before. */
-static inline DWORD finish_pending(struct seat *seat, struct wait wait)
+/* What a wait answers that pends: its status, once it is granted. */
+static inline DWORD finish_before_apcs(struct seat *seat, struct wait wait)
 {
     note(seat);
-    const DWORD status = sleep_until_granted(seat, dues_of(seat, wait));
+    return sleep_until_granted(seat, dues_of(seat, wait));
+}
+
+/* The same. The caller's APCs run before. */
+static inline DWORD finish_pending(struct seat *seat, struct wait wait)
+{
+    const DWORD status = finish_before_apcs(seat, wait);
     if (status == WAIT_IO_COMPLETION)
         run_apcs(seat);
     return status;
@@ -225,6 +231,23 @@ DWORD WaitForSingleObjectEx(HANDLE object, DWORD ms, BOOL alertable)
 DWORD WaitForSingleObject(HANDLE object, DWORD ms)
 {
     return wait_for_object(object, ms, FALSE);
+}
+
+/* The same, but APCs that end the wait have yet to run: by `run_apcs`. */
+static DWORD wait_before_apcs(HANDLE object, DWORD ms, BOOL alertable)
+{
+    struct seat *seat = begin();
+    if (seat == NULL)
+        return WAIT_FAILED;
+    const uint32_t number = waited_number_of(seat, object);
+    begin_timed(seat, ms);
+    const uint32_t refused = nt_wait_object(&waiting.dispatcher, seat->number, number, ms, alertable != FALSE, &seat->reply);
+    if (refused != 0)
+        return fail_wait(seat, refused);
+    if (seat->reply.kind != NT_PENDED)
+        return finish_ended(seat, FALSE);
+    seat->waits_at = __builtin_return_address(0);
+    return finish_before_apcs(seat, (struct wait){ &number, 1, alertable });
 }
 
 DWORD SignalObjectAndWait(HANDLE signal, HANDLE object, DWORD ms, BOOL alertable)

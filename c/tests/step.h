@@ -2,13 +2,25 @@
  * of one instruction is tried for that pair. The trap flag of x86-64 makes the processor tell of each instruction, by SIGTRAP; those outside the
  * program (libc, the kernel) are passed over, and so is what runs under the dispatcher's lock, which c/tests/schedules tries.
  *
- * A test includes ntwin.c before this. It is for a build without sanitizers, which would be stepped through, too. */
+ * A test includes this before ntwin.c. It is for a build without sanitizers, which would be stepped through, too. */
 #ifndef STEP_H
 #define STEP_H
 
+#define _GNU_SOURCE /* (as ntwin.c has it) */
+#include "../nt.h"
+
+#include <fcntl.h>
+#include <limits.h>
+#include <pthread.h>
 #include <semaphore.h>
+#include <signal.h>
+#include <stdatomic.h>
 #include <stdio.h>
+#include <stdlib.h>
+#include <string.h>
+#include <time.h>
 #include <ucontext.h>
+#include <unistd.h>
 
 enum { TRAP_FLAG = 0x100, US_FOR_THE_OTHER = 400 };
 
@@ -16,6 +28,7 @@ typedef void act(void);
 
 static struct {
     act *before, *call, *other; /* what comes before the call is not stepped through */
+    bool to_the_end;            /* the thread's end is a part of the call */
     volatile long left;                    /* how many instructions more until the call stops; below 0 once it has */
     _Atomic pid_t task;                    /* the system's number of the call's thread */
     _Atomic bool has_ended;                /* the call has */
@@ -25,6 +38,37 @@ static struct {
 static _Thread_local volatile bool is_stepped;
 
 extern const char __executable_start[], etext[];
+
+static inline void set_trap_flag(void)
+{
+    __asm__ volatile("lea -128(%%rsp), %%rsp; pushfq; orq $0x100, (%%rsp); popfq; lea 128(%%rsp), %%rsp" ::: "memory", "cc");
+}
+
+static inline void clear_trap_flag(void)
+{
+    __asm__ volatile("lea -128(%%rsp), %%rsp; pushfq; andq $~0x100, (%%rsp); popfq; lea 128(%%rsp), %%rsp" ::: "memory", "cc");
+}
+
+/* The dispatcher's calls are not stepped through, which are some thousand instructions. */
+static inline uint32_t go_on_after(uint32_t answer)
+{
+    if (is_stepped)
+        set_trap_flag();
+    return answer;
+}
+
+#define nt_tick(...) (clear_trap_flag(), go_on_after(nt_tick(__VA_ARGS__)))
+#define nt_due(...) (clear_trap_flag(), go_on_after(nt_due(__VA_ARGS__)))
+#define nt_told(...) (clear_trap_flag(), go_on_after(nt_told(__VA_ARGS__)))
+#define nt_pend(...) (clear_trap_flag(), go_on_after(nt_pend(__VA_ARGS__)))
+#define nt_exit(...) (clear_trap_flag(), go_on_after(nt_exit(__VA_ARGS__)))
+#define nt_begin(...) (clear_trap_flag(), go_on_after(nt_begin(__VA_ARGS__)))
+#define nt_sleep(...) (clear_trap_flag(), go_on_after(nt_sleep(__VA_ARGS__)))
+#define nt_opened(...) (clear_trap_flag(), go_on_after(nt_opened(__VA_ARGS__)))
+#define nt_next_apc(...) (clear_trap_flag(), go_on_after(nt_next_apc(__VA_ARGS__)))
+#define nt_set_event(...) (clear_trap_flag(), go_on_after(nt_set_event(__VA_ARGS__)))
+#define nt_wait_object(...) (clear_trap_flag(), go_on_after(nt_wait_object(__VA_ARGS__)))
+#define nt_close_handle(...) (clear_trap_flag(), go_on_after(nt_close_handle(__VA_ARGS__)))
 
 static uint64_t us_now(void)
 {
@@ -49,10 +93,8 @@ static void let_the_other_run(void)
         doze();
 }
 
-static bool is_under_the_lock(void)
-{
-    return lock_is(TAKEN) || lock_is(WANTED) || (own.seat != NULL && inside_of(own.seat) != 0);
-}
+/* Whether the caller has the dispatcher's lock: the test says so. */
+static bool is_under_the_lock(void);
 
 /* An instruction is about to run. */
 static void on_trap(int signal, siginfo_t *info, void *context)
@@ -95,10 +137,10 @@ static void *run_stepped(void *none)
     stepped.task = gettid();
     pthread_setspecific(stepping, &stepping);
     is_stepped = true;
-    __asm__ volatile("lea -128(%%rsp), %%rsp; pushfq; orq $0x100, (%%rsp); popfq; lea 128(%%rsp), %%rsp" ::: "memory", "cc");
+    set_trap_flag();
     stepped.call();
-    is_stepped = false;
-    stepped.has_ended = true;
+    is_stepped = stepped.to_the_end;
+    stepped.has_ended = !stepped.to_the_end;
     return none;
 }
 
@@ -112,14 +154,16 @@ static void *run_other(void *none)
     return none;
 }
 
-/* Whether this thread sleeps in the system. */
+/* Whether this thread sleeps in the system, or is gone. */
 static bool is_asleep(pid_t task)
 {
     char path[64], text[64] = "";
     snprintf(path, sizeof path, "/proc/self/task/%d/stat", (int)task);
-    const int file = task != 0 ? open(path, O_RDONLY | O_CLOEXEC) : -1;
-    if (file < 0)
+    if (task == 0)
         return false;
+    const int file = open(path, O_RDONLY | O_CLOEXEC);
+    if (file < 0)
+        return true;
     const bool is_read = read(file, text, sizeof text - 1) > 0;
     close(file);
     const char *state = strrchr(text, ')');

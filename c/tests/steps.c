@@ -3,11 +3,17 @@
 #define LOOKS_AT_LOCK 1
 #define LOOKS_AT_WORD 1
 #define WAITS_PER_TRY 4096
+#include "step.h"
+
 #include "../ntwin.c"
 
 #define counted counted_checks /* (ntwin.c has another.) */
 #include "check.h"
-#include "step.h"
+
+static bool is_under_the_lock(void)
+{
+    return lock_is(TAKEN) || lock_is(WANTED) || (own.seat != NULL && inside_of(own.seat) != 0);
+}
 
 enum { PAGE = 4096, SECONDS_EACH_TIME = 20 };
 
@@ -499,6 +505,108 @@ static void others(void)
     try_pair("EnterSynchronizationBarrier", barrier_of_two, enter_barrier_twice, enter_barrier_twice, nothing, 30);
 }
 
+/* ---- Completion ports: each packet is gotten once, and nobody stays in a port. */
+
+static HANDLE port, stepped_thread;
+static LONG gotten, apcs;
+
+static BOOL get_packet(DWORD ms)
+{
+    DWORD bytes;
+    ULONG_PTR key;
+    LPOVERLAPPED overlapped;
+    return GetQueuedCompletionStatus(port, &bytes, &key, &overlapped, ms);
+}
+
+static void open_port(void)
+{
+    must((port = CreateIoCompletionPort(INVALID_HANDLE_VALUE, NULL, 0, 1)) != NULL);
+    gotten = apcs = 0;
+}
+
+static void post_packet(void)
+{
+    must(PostQueuedCompletionStatus(port, 0, 0, NULL));
+}
+
+/* The thread that is stepped has its event, and a handle. */
+static void ask_first(void)
+{
+    must(!get_packet(0) && DuplicateHandle(CURRENT_PROCESS, CURRENT_THREAD, CURRENT_PROCESS, &stepped_thread, 0, FALSE, DUPLICATE_SAME_ACCESS));
+}
+
+static void get_within_a_ms(void)
+{
+    gotten = get_packet(1);
+}
+
+static void CALLBACK count_apc(ULONG_PTR none)
+{
+    (void)none;
+    apcs++;
+}
+
+static void get_beside_apcs(void)
+{
+    OVERLAPPED_ENTRY entry;
+    ULONG removed;
+    while (!GetQueuedCompletionStatusEx(port, &entry, 1, &removed, INFINITE, TRUE))
+        must(GetLastError() == WAIT_IO_COMPLETION);
+    gotten = TRUE;
+    SleepEx(0, TRUE);
+}
+
+static void queue_apc_and_post(void)
+{
+    must(QueueUserAPC(count_apc, stepped_thread, 0));
+    post_packet();
+}
+
+/* The packet was gotten, or is there to be gotten; then nobody has one, and nobody is in the port. */
+static void close_port_of_one_packet(void)
+{
+    must(get_packet(0) == !gotten && !get_packet(0));
+    must(waiting.ports[listed_number_of(port)]->users == 0 && waiting.ports[listed_number_of(port)]->running == 0);
+    must(CloseHandle(port) && CloseHandle(stepped_thread));
+}
+
+static void close_port_after_apc(void)
+{
+    must(apcs == 1);
+    close_port_of_one_packet();
+}
+
+static void open_port_with_two_packets(void)
+{
+    open_port();
+    post_packet();
+    post_packet();
+}
+
+/* The thread has the first packet, and so nobody gets the second before it ends. */
+static void get_first(void)
+{
+    must(get_packet(0));
+    must(DuplicateHandle(CURRENT_PROCESS, CURRENT_THREAD, CURRENT_PROCESS, &stepped_thread, 0, FALSE, DUPLICATE_SAME_ACCESS));
+}
+
+static void get_second(void)
+{
+    gotten = get_packet(INFINITE);
+}
+
+static void ports(void)
+{
+    stepped.before = ask_first;
+    try_pair("GetQueuedCompletionStatus, for 1 ms", open_port, get_within_a_ms, post_packet, close_port_of_one_packet, 50);
+    try_pair("GetQueuedCompletionStatusEx, alertable", open_port, get_beside_apcs, queue_apc_and_post, close_port_after_apc, 50);
+    stepped.before = get_first;
+    stepped.to_the_end = true;
+    try_pair("the end of a thread with a packet", open_port_with_two_packets, nothing, get_second, close_port_of_one_packet, 30);
+    stepped.to_the_end = false;
+    stepped.before = NULL;
+}
+
 int main(void)
 {
     struct sigaction touch = { .sa_sigaction = on_touch, .sa_flags = SA_SIGINFO }, hang = { .sa_handler = on_hang };
@@ -510,5 +618,6 @@ int main(void)
     condition_variables();
     addresses();
     others();
+    ports();
     return counted_checks();
 }

@@ -186,8 +186,10 @@ static void go_on_with_packet(void)
 /* ---- The event of a thread, which is closed as it ends. */
 
 static _Thread_local HANDLE event_of_thread __attribute__((tls_model("initial-exec")));
-static pthread_key_t event_leaving;
-static bool has_event_key;
+static struct {
+    bool is_there; /* under the ports' latch */
+    pthread_key_t leaving;
+} event_key;
 
 static void end_getter(void *event)
 {
@@ -196,9 +198,21 @@ static void end_getter(void *event)
     CloseHandle(event);
 }
 
-__attribute__((constructor)) static void make_event_key(void)
+/* Makes the key, where there is none yet: a constructor of the program's may call before this one. Answers whether there is one. */
+static bool make_event_key(void)
 {
-    has_event_key = pthread_key_create(&event_leaving, end_getter) == 0;
+    take_latch(&ports_latch);
+    if (!event_key.is_there)
+        event_key.is_there = pthread_key_create(&event_key.leaving, end_getter) == 0;
+    const bool is_there = event_key.is_there;
+    give_latch(&ports_latch);
+    return is_there;
+}
+
+/* (While there are keys.) */
+__attribute__((constructor)) static void make_event_key_early(void)
+{
+    make_event_key();
 }
 
 /* The caller's event; null, with the last error set, where there is none. */
@@ -208,7 +222,7 @@ static HANDLE event_to_wait(void)
     if (event_of_thread != NULL)
         return event_of_thread;
     HANDLE made = CreateEventA(NULL, FALSE, FALSE, NULL);
-    if (made != NULL && (!has_event_key || pthread_setspecific(event_leaving, made) != 0)) {
+    if (made != NULL && (!make_event_key() || pthread_setspecific(event_key.leaving, made) != 0)) {
         CloseHandle(made);
         fail(ERROR_NOT_ENOUGH_MEMORY);
         return NULL;
@@ -273,7 +287,8 @@ static struct packet *begin_to_get(struct port *port)
     return packet;
 }
 
-/* Waits for a packet, under the latch, which is given back meanwhile. Answers it, or null, and in `error` why there is none. */
+/* Waits for a packet, under the latch, which is given back meanwhile. Answers it, or null, and in `error` why there is none. APCs that end the wait have
+ * yet to run, since one may leave the call, or wait for a packet itself. If a packet comes before that is known, they stay queued. */
 static struct packet *wait_for_packet(struct port *port, DWORD ms, BOOL alertable, HANDLE event, DWORD *error)
 {
     struct getter getter = { .below = port->top, .event = event };
@@ -281,11 +296,11 @@ static struct packet *wait_for_packet(struct port *port, DWORD ms, BOOL alertabl
         port->top->above = &getter;
     port->top = &getter;
     give_latch(&ports_latch);
-    const DWORD status = WaitForSingleObjectEx(event, ms, alertable);
+    const DWORD status = wait_before_apcs(event, ms, alertable);
     take_latch(&ports_latch);
     if (!getter.is_told) {
         leave_stack(port, &getter);
-        *error = status;
+        *error = status == WAIT_FAILED ? own.last_error : status;
         return NULL;
     }
     *error = ERROR_ABANDONED_WAIT_0;
@@ -323,9 +338,12 @@ static ULONG get_packets(HANDLE handle, LPOVERLAPPED_ENTRY entries, ULONG count,
         free(packet);
     }
     leave_port(port);
-    if (taken == 0)
-        fail(error);
-    return taken;
+    if (taken > 0)
+        return taken;
+    if (error == WAIT_IO_COMPLETION)
+        run_apcs(own.seat);
+    fail(error);
+    return 0;
 }
 
 BOOL GetQueuedCompletionStatus(HANDLE port, LPDWORD bytes, PULONG_PTR key, LPOVERLAPPED *overlapped, DWORD ms)
