@@ -83,6 +83,37 @@ static void contexts(void)
     IS(CALLS, 10);
 }
 
+/* It fails, after a while in which another thread comes to wait; and then succeeds. */
+static BOOL CALLBACK fail_slowly(PINIT_ONCE once, PVOID parameter, PVOID *context)
+{
+    (void)once;
+    (void)parameter;
+    (void)context;
+    if (InterlockedIncrement(&CALLS) > 1)
+        return TRUE;
+    Sleep(30);
+    return FALSE;
+}
+
+static void *execute_after_failure(void *once)
+{
+    AWAIT(ReadAcquire(&CALLS) > 0);
+    must(InitOnceExecuteOnce(once, fail_slowly, NULL, NULL));
+    return NULL;
+}
+
+/* Who waits for an initialization that fails goes on with one. */
+static void failed_initialization(void)
+{
+    INIT_ONCE once = INIT_ONCE_STATIC_INIT;
+    CALLS = 0;
+    start(execute_after_failure, &once);
+    start(execute_after_failure, &once);
+    IS(InitOnceExecuteOnce(&once, fail_slowly, NULL, NULL), FALSE);
+    join_all();
+    IS(CALLS, 2);
+}
+
 static INIT_ONCE ONCE = INIT_ONCE_STATIC_INIT;
 
 static void *execute_once(void *none)
@@ -154,9 +185,12 @@ static SYNCHRONIZATION_BARRIER BARRIER;
 static LONG COME[ROUNDS], LAST;
 static DWORD HOW;
 
+static LONG CAME;
+
 static void *come_late(void *ms)
 {
     Sleep((DWORD)(ULONG_PTR)ms);
+    InterlockedIncrement(&CAME);
     EnterSynchronizationBarrier(&BARRIER, SYNCHRONIZATION_BARRIER_FLAGS_BLOCK_ONLY);
     return NULL;
 }
@@ -166,9 +200,11 @@ static void deleted_barrier(void)
 {
     must(InitializeSynchronizationBarrier(&BARRIER, 2, 0));
     start(come_late, NULL);
-    start(come_late, (void *)20);
-    Sleep(5);
+    /* (The field in which a barrier counts who has come.) */
+    AWAIT(__atomic_load_n(&BARRIER.Reserved2, __ATOMIC_ACQUIRE) == 1);
+    start(come_late, (void *)40);
     ANSWERS(DeleteSynchronizationBarrier(&BARRIER), TRUE, UNTOUCHED);
+    IS(ReadAcquire(&CAME), 2);
     join_all();
 }
 
@@ -211,6 +247,7 @@ int main(void)
 {
     one_time_initialization();
     contexts();
+    failed_initialization();
     barriers();
     deleted_barrier();
     return counted();

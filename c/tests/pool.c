@@ -175,7 +175,45 @@ static void stopped_waits(void)
     CloseHandle(automatic);
 }
 
+/* A wait's time is over no sooner than it is asked for. */
+static void times_of_waits(void)
+{
+    LARGE_INTEGER began, ended;
+    HANDLE wait = NULL;
+    LONG too_soon = 0;
+    ResetEvent(EVENT);
+    for (int i = 0; i < 20; i++) {
+        QueryPerformanceCounter(&began);
+        must(RegisterWaitForSingleObject(&wait, EVENT, note_wait, DONE, 3, WT_EXECUTEONLYONCE | WT_EXECUTEINWAITTHREAD));
+        must(WaitForSingleObject(DONE, INFINITE) == WAIT_OBJECT_0);
+        QueryPerformanceCounter(&ended);
+        too_soon += ended.QuadPart - began.QuadPart < 30000;
+        must(UnregisterWaitEx(wait, INVALID_HANDLE_VALUE));
+    }
+    IS(too_soon, 0);
+}
+
 /* ---- Timer queues. */
+
+/* Those that are due soon come, among others that are due late, in whatever order they were made and changed. */
+static void many_timers(void)
+{
+    HANDLE queue = CreateTimerQueue(), timers[400];
+    TIMEOUTS = 0;
+    for (size_t i = 0; i < ARRAYSIZE(timers); i++)
+        must(CreateTimerQueueTimer(&timers[i], queue, note_wait, NULL, (DWORD)(100000 + i * 7919 % 1000), 0, WT_EXECUTEDEFAULT));
+    for (size_t i = 0; i < ARRAYSIZE(timers); i += 5)
+        must(DeleteTimerQueueTimer(queue, timers[i], NULL));
+    for (size_t i = 1; i < ARRAYSIZE(timers); i += 5)
+        must(ChangeTimerQueueTimer(queue, timers[i], (ULONG)(1 + i * 31 % 10), 0));
+    IS(settled(&TIMEOUTS, 80), 80);
+    for (size_t i = 2; i < ARRAYSIZE(timers); i += 5)
+        must(ChangeTimerQueueTimer(queue, timers[i], (ULONG)(1 + i * 17 % 10), 0));
+    IS(settled(&TIMEOUTS, 160), 160);
+    ANSWERS(DeleteTimerQueueEx(queue, DONE), TRUE, UNTOUCHED);
+    IS(WaitForSingleObject(DONE, INFINITE), WAIT_OBJECT_0);
+    IS(TIMEOUTS, 160);
+}
 
 static void timer_queues(void)
 {
@@ -259,6 +297,8 @@ int main(void)
     registered_waits();
     ends_of_registered_waits();
     stopped_waits();
+    times_of_waits();
+    many_timers();
     timer_queues();
     deleted_queue();
     return counted();

@@ -195,6 +195,25 @@ static void released_when_it_returns(void)
     CloseHandle(MUTEX);
 }
 
+static void CALLBACK may_run_long(PTP_CALLBACK_INSTANCE instance, PVOID answers)
+{
+    if (!CallbackMayRunLong(instance) && GetLastError() == ERROR_TOO_MANY_THREADS)
+        InterlockedIncrement(answers);
+}
+
+/* Each thread that a pool may have is in a callback: none is left for others. */
+static void no_thread_left(void)
+{
+    TP_CALLBACK_ENVIRON environment;
+    LONG refused = 0;
+    InitializeThreadpoolEnvironment(&environment);
+    SetThreadpoolCallbackPool(&environment, CreateThreadpool(NULL));
+    SetThreadpoolThreadMaximum(environment.Pool, 1);
+    must(TrySubmitThreadpoolCallback(may_run_long, &refused, &environment));
+    IS(settled(&refused, 1), 1);
+    CloseThreadpool(environment.Pool);
+}
+
 static void CALLBACK leave_who_waits(PTP_CALLBACK_INSTANCE instance, PVOID steps, PTP_WORK work)
 {
     (void)work;
@@ -313,8 +332,7 @@ static void pool_timers_and_waits(void)
     ResetEvent(EVENT);
 }
 
-/* ---- Due times that are as far away as can be. */
-
+/* Due times that are as far away as can be. */
 static void far_times(void)
 {
     static const LONGLONG far[] = { INT64_MIN, INT64_MIN + 1, INT64_MIN + 1000000, INT64_MAX };
@@ -327,15 +345,12 @@ static void far_times(void)
         FILETIME due = time_of(far[i]);
         SetThreadpoolTimer(timer, &due, 1, 0);
         SetThreadpoolWait(wait, EVENT, &due);
-        IS(later(&ticks), 0);
-        IS(ReadAcquire(&TIMEOUTS), 0);
+        IS(later(&ticks) + ReadAcquire(&TIMEOUTS), 0);
         IS(IsThreadpoolTimerSet(timer), TRUE);
     }
     CloseThreadpoolTimer(timer);
     CloseThreadpoolWait(wait);
 }
-
-/* ---- A group whose members are closed while another thread submits more. */
 
 static void CALLBACK count_simple(PTP_CALLBACK_INSTANCE instance, PVOID ran)
 {
@@ -350,6 +365,7 @@ static DWORD WINAPI submit_many(LPVOID environment)
     return 0;
 }
 
+/* A group's members are closed while another thread submits more. */
 static void closed_while_submitted(void)
 {
     TP_CALLBACK_ENVIRON environment;
@@ -374,6 +390,7 @@ int main(void)
     changed_maximum();
     pool_work();
     released_when_it_returns();
+    no_thread_left();
     left_callbacks();
     canceled_work();
     pool_timers_and_waits();
