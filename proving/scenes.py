@@ -61,7 +61,7 @@ FILES = {
     "crates/rows/src/tests.rt": "#[test]\nfn one() {}\n",
     "crates/rows/src/test": f"{PROVED[:-1]} tests=1\n",
     "mutants/low.edits": "# gives_another\nfile: src/lib.rt\nold:     1\nnew:     wrong\n",
-    "mutants/private/low.edits": "",
+    "mutants/private/low.edits": "# gives_more\nfile: src/lib.rt\nold:     2\nnew:     wrong\n",
 }
 # What a check may end with and say, none of which shows that a crate is proved.
 NOT_PROVED = [(0, ""), (0, "logic=not-proved functions=1"), (1, PROVED), (-9, PROVED), (0, f"warning: no call of `low::one` can be made\n{PROVED}")]
@@ -145,7 +145,7 @@ def kept(folder):
     yield (passed, failed, checks) == (5, [], 4)
     passed, failed, said, checks = ran(folder)
     yield (passed, failed, checks) == (5, [], 0) and "4 of 4 crates were taken as earlier runs kept them, and 1 refusals" in said
-    yield ran(folder, is_all=True)[::3] == (5, 4)
+    yield ran(folder, is_all=True)[::3] == (6, 6)
     yield ran(folder, beside={"crates.txt": FILES["crates.txt"].replace("app: low", "app: low itoa")})[::3] == (5, 1)
     yield ran(folder, beside={"HANDLES": "Handles allowed: Wait.\n"})[::3] == (5, 3)
     yield ran(folder, lib_rt=f"// One.\n{FILES['crates/low/src/lib.rt']}")[::3] == (5, 4)
