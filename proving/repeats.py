@@ -29,11 +29,12 @@ def sum_of_rest(tree, without):
 
 
 def repeated(tree, kept, names, without, words, call):
-    """The step that runs these words at the top of the tree, by this call. It rests on the crates of these names, on all else in the tree but what it can do
-    `without`, and on the machine. If it passed over the same in an earlier run, it counts as it did then."""
+    """The step that runs these words at the top of the tree, by this call. It rests on the crates of these names, or on those with tests if there are none;
+    on all else in the tree but what it can do `without`; and on the machine. If it passed over the same in an earlier run, it counts as it did then."""
     def step(progress):
         crates = crates_of(tree)
-        total = sum_of("a step", sum_of_machine(), sum_of_rest(tree, without), *words, *(sum_of_crate(crates[it]) for it in names))
+        used = [crates[it] for it in names] or [it for it in crates.values() if it.has_tests()]
+        total = sum_of("a step", sum_of_machine(), sum_of_rest(tree, without), *words, *map(sum_of_crate, used))
         count = kept.has_passed(total)
         if count:
             progress.tell(f"taken as an earlier run kept it: {count} passed over the same files and tools")

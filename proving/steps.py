@@ -241,14 +241,14 @@ def proved(tree, work, is_all):
     """The steps with proofs: over what earlier runs kept, or from nothing with each mutant, case and planted fault of C. Those of tests that take long are
     not run again over the same."""
     scripts = [os.path.relpath(it, tree) for it in sorted(glob.glob(f"{tree}/examples/*.nts") + glob.glob(f"{tree}/tests/scripts/*/*.nts"))]
-    kept, of_tests = Kept(lambda _: None, takes=not is_all), [it.name for it in crates_of(tree).values() if it.has_tests()]
+    kept = Kept(lambda _: None, takes=not is_all)
     # (of c/ a preload may have the kit's compiler)
     no_growth = ["docs", "bench", *(os.path.relpath(it, tree) for it in glob.glob(f"{tree}/c/*") if not it.endswith("/kit"))]
     again = lambda names, without, *words: repeated(tree, kept, names, without, words, command(tree, *words))
     in_c = ["make", "--no-print-directory", "-C", "c", "check", "ALL=1" if is_all else "STRICT=1"]
     return [
         ("proofs, tests, programs and mutants", functools.partial(proofs_and_mutants, tree, work, is_all), True),
-        ("the tests, each growth refused", again(of_tests, no_growth, "tests/growths/tests"), False),
+        ("the tests, each growth refused", again([], no_growth, "tests/growths/tests"), False),
         ("object numbers and handles", command(tree, "tests/types"), False),
         ("what closed objects leave", command(tree, "tests/memory"), False),
         ("the threads of a plan", command(tree, "tests/threads"), False),
