@@ -55,3 +55,16 @@ def faults():
         for row in [f"{kind} {head}", *block] if kind != "text" else ():
             fault, before, marked, stands, hint = [it.strip(" ") for it in f"{row} | |".split("|")][:5]
             yield fault, unescaped(before), marked.replace("\\t", "\t"), named(stands, texts) or None, hint or None
+
+
+def explained(number, fault, marked, stands, hint):
+    """The lines that are said of a fault whose line is marked so. A missing word is marked after the line."""
+    start = marked.find("^")
+    end = marked.find("^", start + 1)
+    line = marked.replace("^", "").rstrip() if fault == "missing word" else marked.replace("^", "")
+    length = end - start - 1 if end > 0 else 1
+    if fault == "bad byte":
+        start, length = line.index("\\x"), 4
+    before = "".join("\t" if it == "\t" else " " for it in marked[:start])
+    said = [f"ntrun: line {number}: {fault}", f"script.nts:{number}:{start + 1}: {fault}", f"  {line}", f"  {before}{'^' * length}"]
+    return said + [f"  {it}" for it in (hint, stands and f"here can stand: {stands}") if it]
