@@ -65,7 +65,8 @@ static uint32_t handle(int at)
     const char *text = word(at);
     if (text[0] >= '0' && text[0] <= '9')
         return (uint32_t)number(at);
-    if (text[0] == 't' && text[1] >= '0' && text[1] <= '9' && strtoul(text + 1, NULL, 10) < THREADS)
+    /* (A name may begin as a thread does: t1_.) */
+    if (text[0] == 't' && text[1] != 0 && text[1 + strspn(text + 1, "0123456789")] == 0 && strtoul(text + 1, NULL, 10) < THREADS)
         return (uint32_t)strtoul(text + 1, NULL, 10);
     for (size_t i = 0; i < NAMED; i++)
         if (strcmp(NAMES[i].name, text) == 0)
