@@ -11,13 +11,16 @@
  *   - A handle that was closed is refused with ERROR_INVALID_HANDLE though its number is another handle's now, until that number was given
  *     16,382 times more.
  *   - Names are the process's own (win/synchapi.h opens objects by them). Security attributes are ignored. Nothing is shared with other
- *     processes. In a child that is forked beside other threads that have called, each call fails with ERROR_NOT_SUPPORTED.
+ *     processes. In a child that is forked beside other threads that have called, each call fails with ERROR_NOT_SUPPORTED, but for those beside the
+ *     dispatcher (critical sections and their like), where the child finds nobody that sleeps.
  *   - DWORD, LONG and ULONG have 32 bits, as on Windows, and so are no `long` here: print them with %u and %d.
  *   - A wait names no object twice, in both modes, by whichever handles.
  *   - No thread is suspended once it has begun, or terminated; a priority has no effect.
  *   - No thread is made to keep the time. Each sleeps to its own deadline; for timers one of those that wait for one keeps it for all of
  *     them, and a handler of signals that runs long in that thread delays the timers.
- *   - No call is made from a handler of signals, but exit. pthread_cancel acts once a wait has ended, and does not end it; a thread that is
+ *   - A handler of signals makes no calls but exit and those that set an event, release a semaphore or mutex or queue an APC. One that has interrupted a
+ *     call of its own thread under the library's lock is refused with ERROR_POSSIBLE_DEADLOCK, and does not hang; and in a thread that waits the dispatcher
+ *     refuses all but SetEvent. pthread_cancel acts once a wait has ended, and does not end it; a thread that is
  *     canceled asynchronously while it waits keeps its mutexes.
  *   - ExitThread unwinds a thread that CreateThread did not make, as pthread_exit does.
  * docs/WIN32.md has each call. Each is made as Microsoft's page says, otherwise. */

@@ -123,13 +123,11 @@ static DWORD rights_of(enum kind kind, DWORD access)
 
 /* ---- A call: the caller joins and takes the lock, makes the call, and gives the lock back. */
 
-/* The caller's seat, with the lock taken; null, with the last error set, where it has none. */
+/* The caller's seat, with the lock taken; null, with the last error set, where it has none, or can't take the lock. */
 __attribute__((always_inline)) static inline struct seat *begin(void)
 {
     struct seat *seat = join();
-    if (seat != NULL)
-        lock(seat);
-    return seat;
+    return seat != NULL && lock(seat) ? seat : NULL;
 }
 
 /* What a call answers that was refused. */

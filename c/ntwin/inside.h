@@ -119,6 +119,7 @@ struct seat {
     _Atomic uint32_t word;   /* how its wait stands: written by others under the lock */
     _Atomic uint32_t inside; /* not 0 while it has the lock as the one that this favours, or looks whether it has (lock.c) */
     uint32_t turns;          /* how often it has had it so in a row */
+    _Atomic bool takes;      /* it takes the lock as all do, or has it so: a handler of signals that interrupted it must not wait for it */
     uint32_t status;         /* with which status it was granted */
     uint32_t number;         /* the thread's, which is also the seat's place among all */
     uint32_t handle;         /* the number of its own handle, which no program sees */
@@ -159,6 +160,7 @@ enum kind { KIND_THREAD, KIND_EVENT, KIND_SEMAPHORE, KIND_MUTEX, KIND_TIMER, KIN
 struct own {
     struct seat *seat; /* null before its first call, and once it has left */
     bool has_left;
+    bool joins;        /* it takes its seat */
     DWORD last_error;
     DWORD id;          /* 0 until it was asked for */
     jmp_buf *end;      /* where ExitThread goes to, in a thread of CreateThread */

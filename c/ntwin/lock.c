@@ -84,6 +84,19 @@ __attribute__((always_inline)) static inline bool step_in(struct seat *seat)
     return true;
 }
 
+/* Whether the thread of this seat takes the lock as all do, or has it so. Its handlers of signals read that. */
+static inline bool takes_lock(const struct seat *seat)
+{
+    return atomic_load_explicit(&seat->takes, memory_order_relaxed);
+}
+
+static inline void set_takes_lock(struct seat *seat, bool takes)
+{
+    atomic_signal_fence(memory_order_seq_cst);
+    atomic_store_explicit(&seat->takes, takes, memory_order_relaxed);
+    atomic_signal_fence(memory_order_seq_cst);
+}
+
 /* The lock favours the caller from now on, which has it, unless it is wanted. */
 __attribute__((noinline, cold)) static void favour(struct seat *seat)
 {
@@ -94,7 +107,9 @@ __attribute__((noinline, cold)) static void favour(struct seat *seat)
         return;
     seat->turns = 0;
     atomic_store_explicit(&seat->inside, mine, memory_order_relaxed);
-    if (!atomic_compare_exchange_strong_explicit(&waiting.lock, &seen, mine, memory_order_acq_rel, memory_order_relaxed))
+    if (atomic_compare_exchange_strong_explicit(&waiting.lock, &seen, mine, memory_order_acq_rel, memory_order_relaxed))
+        set_takes_lock(seat, false);
+    else
         atomic_store_explicit(&seat->inside, 0, memory_order_relaxed);
 }
 
@@ -181,6 +196,21 @@ static inline bool take_as_seen(uint32_t seen)
     return atomic_compare_exchange_strong_explicit(&waiting.lock, &seen, TAKEN, memory_order_acquire, memory_order_relaxed);
 }
 
+/* Sleeps on the lock. Meanwhile the caller's handlers of signals may call. And where the caller is such a handler, it may have interrupted the favoured
+ * thread after that was inside, and before it woke who sleeps until it is not. */
+static void sleep_on_lock(void)
+{
+    struct seat *seat = own.seat;
+    const bool takes = seat != NULL && takes_lock(seat);
+    if (seat != NULL) {
+        set_takes_lock(seat, false);
+        wake_one(&seat->inside);
+    }
+    sleep_on(&waiting.lock, WANTED, NULL);
+    if (seat != NULL)
+        set_takes_lock(seat, takes);
+}
+
 /* Takes the lock if it was not free at once: looks at it for a while, and then sleeps on it. */
 __attribute__((noinline, cold)) static void wait_for_lock(void)
 {
@@ -196,7 +226,7 @@ __attribute__((noinline, cold)) static void wait_for_lock(void)
         rest();
     }
     while ((seen = atomic_exchange_explicit(&waiting.lock, WANTED, memory_order_acquire)) == TAKEN || seen == WANTED)
-        sleep_on(&waiting.lock, WANTED, NULL);
+        sleep_on_lock();
     take_from(seen);
 }
 
@@ -242,31 +272,43 @@ static inline void take_lock(void)
         take_in_a_step();
 }
 
-/* The same, where the thread of this seat calls. */
-__attribute__((noinline)) static void take_in_turn(struct seat *caller)
+/* The same, where the thread of this seat calls. False, with the last error set, where that is a handler of signals which has interrupted a call of its
+ * thread that has the lock or takes it. */
+__attribute__((noinline)) static bool take_in_turn(struct seat *caller)
 {
+    if (inside_of(caller) != 0 || takes_lock(caller)) {
+        own.last_error = ERROR_POSSIBLE_DEADLOCK;
+        return false;
+    }
+    set_takes_lock(caller, true);
     take_lock();
     count_turn(caller);
+    return true;
 }
 
-/* Takes the lock for the thread of this seat, which calls. */
-__attribute__((always_inline)) static inline void take_lock_for(struct seat *caller)
+/* Takes the lock for the thread of this seat, which calls. False, with the last error set, where it can't (`take_in_turn`). */
+__attribute__((always_inline)) static inline bool take_lock_for(struct seat *caller)
 {
-    if (!step_in(caller))
-        take_in_turn(caller);
+    return step_in(caller) || take_in_turn(caller);
+}
+
+/* Makes the lock free. Answers whether threads may sleep on it. */
+__attribute__((always_inline)) static inline bool let_go(void)
+{
+    check_waiting();
+    if (is_alone()) {
+        atomic_store_explicit(&waiting.lock, FREE, memory_order_relaxed);
+        return false;
+    }
+    if (has_sanitizer())
+        tell_of_giving();
+    return atomic_exchange_explicit(&waiting.lock, FREE, memory_order_release) == WANTED;
 }
 
 /* Gives back what `take_lock` took. */
 __attribute__((always_inline)) static inline void give_lock(void)
 {
-    check_waiting();
-    if (is_alone()) {
-        atomic_store_explicit(&waiting.lock, FREE, memory_order_relaxed);
-        return;
-    }
-    if (has_sanitizer())
-        tell_of_giving();
-    if (atomic_exchange_explicit(&waiting.lock, FREE, memory_order_release) == WANTED)
+    if (let_go())
         wake_who_wants_lock();
 }
 
@@ -275,7 +317,10 @@ __attribute__((always_inline)) static inline void give_lock_for(struct seat *cal
 {
     const uint32_t inside = inside_of(caller);
     if (inside == 0) {
-        give_lock();
+        const bool is_wanted = let_go();
+        set_takes_lock(caller, false);
+        if (is_wanted)
+            wake_who_wants_lock();
     } else {
         check_waiting();
         step_out(caller, inside);

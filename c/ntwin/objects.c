@@ -36,13 +36,23 @@ HANDLE CreateEventW(LPSECURITY_ATTRIBUTES attributes, BOOL manual, BOOL set, LPC
     return create_event(WIDE(name), event_flags(manual, set), EVENT_ALL_ACCESS);
 }
 
+/* What SetEvent answers that was refused. A handler of signals that has interrupted its thread's wait sets the event by the thread that is yet to come,
+ * where one is. */
+__attribute__((noinline, cold)) static BOOL set_event_beside_wait(struct seat *seat, uint32_t event, uint32_t refused)
+{
+    struct nt_reply reply;
+    if (refused == NT_ERROR_THREAD_WAITING && waiting.seated < waiting.places)
+        refused = nt_set_event(&waiting.dispatcher, waiting.places - 1, event, &reply);
+    return finish(seat, refused);
+}
+
 BOOL SetEvent(HANDLE event)
 {
     struct seat *seat = begin();
     if (seat == NULL)
         return FALSE;
-    const uint32_t number = number_of(seat, event);
-    return finish(seat, nt_set_event(&waiting.dispatcher, seat->number, number, &seat->reply));
+    const uint32_t number = number_of(seat, event), refused = nt_set_event(&waiting.dispatcher, seat->number, number, &seat->reply);
+    return refused == 0 ? finish(seat, 0) : set_event_beside_wait(seat, number, refused);
 }
 
 BOOL ResetEvent(HANDLE event)
@@ -101,10 +111,12 @@ BOOL ReleaseSemaphore(HANDLE semaphore, LONG count, LPLONG previous)
     if (seat == NULL)
         return FALSE;
     const uint32_t number = number_of(seat, semaphore);
-    if (!finish(seat, nt_release_semaphore(&waiting.dispatcher, seat->number, number, count, &seat->reply)))
+    const uint32_t refused = nt_release_semaphore(&waiting.dispatcher, seat->number, number, count, &seat->reply);
+    const LONG before = seat->reply.previous;
+    if (!finish(seat, refused))
         return FALSE;
     if (previous != NULL)
-        *previous = seat->reply.previous;
+        *previous = before;
     return TRUE;
 }
 
@@ -198,9 +210,8 @@ BOOL SetWaitableTimer(HANDLE timer, const LARGE_INTEGER *due, LONG period, PTIME
         return fail(ERROR_INVALID_PARAMETER);
     const int64_t time = due->QuadPart;
     struct seat *seat = join();
-    if (seat == NULL)
+    if (seat == NULL || !take_lock_for(seat))
         return FALSE;
-    take_lock_for(seat);
     const uint64_t now = pass_time(seat);
     const int64_t moment = time < 0 ? time : moment_of(time);
     const uint32_t number = number_of(seat, timer), refused = set_timer(seat, number, moment, period, routine, argument);

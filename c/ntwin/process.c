@@ -80,7 +80,8 @@ HANDLE CreateThread(LPSECURITY_ATTRIBUTES attributes, SIZE_T stack, LPTHREAD_STA
     struct seat *caller = join();
     if (caller == NULL)
         return NULL;
-    join_those_who_are_gone(caller);
+    if (!join_those_who_are_gone(caller))
+        return NULL;
     struct runner *runner = calloc(1, sizeof *runner);
     if (runner == NULL) {
         fail(ERROR_NOT_ENOUGH_MEMORY);

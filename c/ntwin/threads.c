@@ -135,6 +135,7 @@ static void end_seat(struct seat *seat)
  * at the time in its place. */
 static void leave(struct seat *seat)
 {
+    set_takes_lock(seat, true);
     take_lock();
     see_to_the_overdue(seat);
     if (nt_close_handle(&waiting.dispatcher, seat->number, seat->handle, &seat->reply) == 0)
@@ -143,7 +144,7 @@ static void leave(struct seat *seat)
         note(seat);
         look_for_timers();
         end_seat(seat);
-        wake_all(seat, wakes_left());
+        wake_all(seat->woken, wakes_left());
         renew_seats();
         give_lock();
         return;
@@ -275,19 +276,27 @@ static uint32_t open_dispatcher(void)
 /* The caller's seat, which it takes now. Null, with the last error set, where it can't have one. */
 __attribute__((noinline, cold)) static struct seat *join_first(void)
 {
+    if (own.joins) { /* (This is a handler of signals, which has interrupted that.) */
+        fail(ERROR_POSSIBLE_DEADLOCK);
+        return NULL;
+    }
+    own.joins = true;
     uint32_t refused = own.has_left ? NT_ERROR_THREAD_ENDED : open_dispatcher();
     if (refused == 0 && pthread_setspecific(process.leaving, rounds) != 0)
         refused = NT_ERROR_NOT_ENOUGH_MEMORY;
     if (refused != 0) {
+        own.joins = false;
         fail(refused);
         return NULL;
     }
     take_lock();
-    own.seat = take_seat();
-    if (own.seat != NULL)
-        begin_life(own.seat, GetCurrentThreadId());
+    struct seat *seat = take_seat();
+    if (seat != NULL)
+        begin_life(seat, GetCurrentThreadId());
     give_lock();
-    if (own.seat == NULL) {
+    own.seat = seat;
+    own.joins = false;
+    if (seat == NULL) {
         pthread_setspecific(process.leaving, NULL);
         fail(ERROR_NO_SYSTEM_RESOURCES);
     }
@@ -301,10 +310,11 @@ static inline struct seat *join(void)
     return seat != NULL ? seat : join_first();
 }
 
-/* Joins the threads of CreateThread that are gone. It waits for none: who has left may still run destructors. */
-static void join_those_who_are_gone(struct seat *caller)
+/* Joins the threads of CreateThread that are gone. It waits for none: who has left may still run destructors. False as `take_lock_for` has it. */
+static bool join_those_who_are_gone(struct seat *caller)
 {
-    take_lock_for(caller);
+    if (!take_lock_for(caller))
+        return false;
     for (struct runner **at = &waiting.left, *runner; (runner = *at) != NULL;)
         if (pthread_tryjoin_np(runner->thread, NULL) != EBUSY) {
             *at = runner->next;
@@ -313,6 +323,7 @@ static void join_those_who_are_gone(struct seat *caller)
             at = &runner->next;
         }
     give_lock_for(caller);
+    return true;
 }
 
 /* Joins a thread that is gone by this moment of the monotonic clock. Answers whether it is. (pthread_timedjoin_np goes by a clock that may be set, and

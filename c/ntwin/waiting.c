@@ -153,11 +153,13 @@ static inline void see_to_the_overdue(struct seat *caller)
         catch_up_unless_kept(caller);
 }
 
-/* Takes the lock. Where nobody watches, what is overdue happens first. */
-__attribute__((always_inline)) static inline void lock(struct seat *caller)
+/* Takes the lock. Where nobody watches, what is overdue happens first. False as `take_lock_for` has it. */
+__attribute__((always_inline)) static inline bool lock(struct seat *caller)
 {
-    take_lock_for(caller);
+    if (!take_lock_for(caller))
+        return false;
     see_to_the_overdue(caller);
+    return true;
 }
 
 /* How many threads the caller's call told something while they slept, under the lock. From now on the caller wakes them. */
@@ -168,21 +170,24 @@ static uint32_t wakes_left(void)
     return wakes;
 }
 
-/* Wakes the first so many of those whom the caller's call told something. */
-__attribute__((noinline)) static void wake_all(const struct seat *caller, uint32_t wakes)
+/* Wakes those whom the caller's call told something. */
+__attribute__((noinline)) static void wake_all(const uint32_t *woken, uint32_t wakes)
 {
     for (uint32_t i = 0; i < wakes; i++)
-        wake_one(&waiting.seats[caller->woken[i]].word);
+        wake_one(&waiting.seats[woken[i]].word);
 }
 
 /* The same, once the lock is given back; and tells of the knot that the caller's call has tied, as all stands before that. */
 __attribute__((noinline)) static void unlock_and_wake_all(struct seat *caller)
 {
     char *text = caller->tells ? text_of_knot() : NULL;
+    const bool tells = caller->tells;
     const uint32_t wakes = wakes_left();
+    uint32_t woken[WOKEN_LATER]; /* (A handler of signals may call once the lock is given back.) */
+    memcpy(woken, caller->woken, wakes * sizeof *woken);
     give_lock_for(caller);
-    wake_all(caller, wakes);
-    if (caller->tells)
+    wake_all(woken, wakes);
+    if (tells)
         tell_knot(caller, text);
 }
 

@@ -58,6 +58,7 @@ static void call(struct taker *me, struct seat *seat)
     me->was_favoured = is_favoured_now;
     count(me);
     give_lock_for(seat);
+    must(!takes_lock(seat) && inside_of(seat) == 0);
 }
 
 /* It takes the lock as who has no seat, or as who ends the process. */

@@ -71,7 +71,7 @@ static bool call_the_late(struct seat *clock)
         }
     const uint32_t wakes = wakes_left();
     give_lock();
-    wake_all(clock, wakes);
+    wake_all(clock->woken, wakes);
     return any;
 }
 

@@ -1,6 +1,6 @@
 /* The stepper: a call stops before each of its instructions in turn, while another call, of another thread, does all that could matter. So each window
  * of one instruction is tried for that pair. The trap flag of x86-64 makes the processor tell of each instruction, by SIGTRAP; those outside the
- * program (libc, the kernel) are passed over, and so is what runs under the dispatcher's lock, which c/tests/schedules tries.
+ * program (libc, the kernel) and in the dispatcher are passed over.
  *
  * A test includes this before ntwin.c. It is for a build without sanitizers, which would be stepped through, too. */
 #ifndef STEP_H
@@ -28,6 +28,7 @@ typedef void act(void);
 
 static struct {
     act *before, *call, *other; /* what comes before the call is not stepped through */
+    act *inner;                 /* null, or what the stopped thread calls itself, as a handler of signals that has interrupted its call */
     bool to_the_end;            /* the thread's end is a part of the call */
     volatile long left;                    /* how many instructions more until the call stops; below 0 once it has */
     _Atomic pid_t task;                    /* the system's number of the call's thread */
@@ -93,8 +94,8 @@ static void let_the_other_run(void)
         doze();
 }
 
-/* Whether the caller has the dispatcher's lock: the test says so. */
-static bool is_under_the_lock(void);
+/* Whether the call does not stop here: the test says so. */
+static bool is_passed_over(void);
 
 /* An instruction is about to run. */
 static void on_trap(int signal, siginfo_t *info, void *context)
@@ -102,12 +103,13 @@ static void on_trap(int signal, siginfo_t *info, void *context)
     (void)signal, (void)info;
     greg_t *const registers = ((ucontext_t *)context)->uc_mcontext.gregs;
     const char *at = (const char *)registers[REG_RIP];
-    if (is_stepped && (at < __executable_start || at >= etext || is_under_the_lock() || stepped.left-- > 0))
+    if (is_stepped && (at < __executable_start || at >= etext || is_passed_over() || stepped.left-- > 0))
         return;
+    const bool stops = is_stepped;
     registers[REG_EFL] &= ~TRAP_FLAG;
-    if (is_stepped)
-        let_the_other_run();
     is_stepped = false;
+    if (stops)
+        (stepped.inner != NULL ? stepped.inner : let_the_other_run)();
 }
 
 /* A thread that ends by itself is stepped until the library's destructors have run; later, the system blocks signals. */

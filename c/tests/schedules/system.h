@@ -72,7 +72,8 @@ static int yield_strand(void)
     return 0;
 }
 
-#define syscall(number, word, operation, value, until, ...) use_system(number, (void *)(uintptr_t)(word), operation, value, until)
+#define syscall(number, word, operation, value, until, other, bits) \
+    ((void)(bits), use_system(number, (void *)(uintptr_t)(word), operation, value, until))
 #define clock_gettime(clock, at) read_clock(at)
 /* (The system has no thread more now and then.) */
 #define pthread_create(thread, attributes, start, argument) ((void)(attributes), one_in(20) ? EAGAIN : create_strand(thread, start, argument))

@@ -1,0 +1,162 @@
+/* A handler of signals sets an event, in each window of one instruction of a call of its own thread (step.h): either it does, or it is refused with
+ * ERROR_POSSIBLE_DEADLOCK, since its thread has the lock or takes it. It never waits for what its own thread has. */
+#define LOOKS_AT_LOCK 1
+#define LOOKS_AT_WORD 1
+#define WAITS_PER_TRY 4096
+#include "step.h"
+
+#include "../ntwin.c"
+
+#define counted counted_checks /* (ntwin.c has another.) */
+#include "check.h"
+
+enum { SECONDS_EACH_TIME = 20 };
+
+static HANDLE mine, others, third;
+static LONG has_set, sets, refusals;
+static const char *pair;
+static long number;
+
+static bool (*passes_over)(void);
+
+static bool is_passed_over(void)
+{
+    return passes_over != NULL && passes_over();
+}
+
+static void on_hang(int signal)
+{
+    char line[128];
+    (void)signal;
+    const int length = snprintf(line, sizeof line, "c/tests/interrupted.c: %s: it hangs at instruction %ld\n", pair, number);
+    _exit(write(STDOUT_FILENO, line, (size_t)length) < 0 ? 6 : 5);
+}
+
+/* The handler's call. */
+static void set_others(void)
+{
+    SetLastError(0);
+    has_set = SetEvent(others);
+    must(has_set || GetLastError() == ERROR_POSSIBLE_DEADLOCK);
+    sets += has_set;
+    refusals += !has_set;
+}
+
+static void set_mine(void)
+{
+    must(SetEvent(mine));
+}
+
+static void set_third(void)
+{
+    must(SetEvent(third));
+}
+
+static void nothing(void)
+{
+}
+
+static bool is_set(HANDLE event)
+{
+    return WaitForSingleObject(event, 0) == WAIT_OBJECT_0;
+}
+
+/* Tries the handler's call at each instruction. What each answered is so. */
+static void interrupt(const char *name, act *before, act *call, act *other)
+{
+    bool came = true;
+    pair = name;
+    sets = refusals = 0;
+    stepped.before = before;
+    stepped.inner = set_others;
+    for (number = 0; came; number++) {
+        alarm(SECONDS_EACH_TIME);
+        has_set = FALSE;
+        came = step(call, other, number);
+        must(is_set(others) == has_set);
+        is_set(mine), is_set(third);
+    }
+    alarm(0);
+    IS(sets > 0, true);
+    IS(refusals > 0, true);
+}
+
+static void call_once(void)
+{
+    must(ResetEvent(mine));
+}
+
+/* The lock favours the caller from now on. */
+static void be_favoured(void)
+{
+    for (int i = 0; i < 1000000 && (i == 0 || !lock_is(FAVOURS + own.seat->number)); i++)
+        call_once();
+}
+
+/* Another thread takes the lock while the caller has it as the favoured one; from then on the call stops. */
+static bool revokes(void)
+{
+    if (!stepped.has_begun && own.seat != NULL && inside_of(own.seat) != 0)
+        let_the_other_run();
+    return !stepped.has_begun;
+}
+
+static void wait_for_mine(void)
+{
+    must(WaitForSingleObject(mine, INFINITE) == WAIT_OBJECT_0);
+}
+
+/* ---- A signal wakes a thread that sleeps, and its handler sets what that waits for. */
+
+static void on_signal(int signal)
+{
+    (void)signal;
+    set_others();
+}
+
+static void *wait_for_others(void *none)
+{
+    must(WaitForSingleObject(others, INFINITE) == WAIT_OBJECT_0);
+    return none;
+}
+
+static void signal_sleepers(void)
+{
+    struct sigaction action = { .sa_handler = on_signal };
+    must(sigaction(SIGUSR1, &action, NULL) == 0);
+    pair = "a signal to a thread that waits";
+    for (number = 0; number < 20; number++) {
+        pthread_t thread;
+        alarm(SECONDS_EACH_TIME);
+        must(pthread_create(&thread, NULL, wait_for_others, NULL) == 0);
+        usleep((useconds_t)(2000 + 100 * number));
+        do {
+            must(pthread_kill(thread, SIGUSR1) == 0);
+            usleep(1000);
+        } while (!has_set);
+        must(pthread_join(thread, NULL) == 0);
+        has_set = FALSE;
+    }
+    alarm(0);
+}
+
+int main(void)
+{
+    struct sigaction hang = { .sa_handler = on_hang };
+    must(sigaction(SIGALRM, &hang, NULL) == 0);
+    mine = CreateEvent(NULL, FALSE, FALSE, NULL);
+    others = CreateEvent(NULL, FALSE, FALSE, NULL);
+    third = CreateEvent(NULL, FALSE, FALSE, NULL);
+    begin_stepping();
+    interrupt("SetEvent", call_once, set_mine, nothing);
+    interrupt("SetEvent, the first call of a thread", NULL, set_mine, nothing);
+    interrupt("WaitForSingleObject", call_once, wait_for_mine, set_mine);
+    if (process.has_barriers) {
+        interrupt("SetEvent, by the favoured thread", be_favoured, set_mine, nothing);
+        passes_over = revokes;
+        interrupt("SetEvent, by the favoured thread, whose favour is revoked", be_favoured, set_mine, set_third);
+        passes_over = NULL;
+    }
+    signal_sleepers();
+    return counted_checks();
+}
