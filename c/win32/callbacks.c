@@ -188,8 +188,8 @@ static bool is_without_thread(const struct _TP_POOL *pool)
     return pool == &watching_pool ? pool->tasks > threads : threads == 0;
 }
 
-/* A callback is to come, but not where there is no thread for it and none can be had. Under the latch, which is given back. Answers whether it comes.
- * (The task may be gone by then.) */
+/* A callback is to come, but not where there is no thread for it and none can be had. Under the latch, which is given back. Answers whether it
+ * comes. (The task may be gone by then.) */
 static bool try_to_submit(struct task *task)
 {
     PTP_POOL pool = task->pool;

@@ -114,8 +114,8 @@ static bool start_in_pool(PTP_POOL pool)
     return false;
 }
 
-/* A thread that is called for: an idle one, or a new one, which is counted. That is decided under the latch, and done once the latch is given back: the
- * pool may be gone then, but where the thread is new. */
+/* A thread that is called for: an idle one, or a new one, which is counted. That is decided under the latch, and done once the latch is given
+ * back: the pool may be gone then, but where the thread is new. */
 struct call {
     PTP_POOL pool;
     PVOID calls; /* the address of its word */
@@ -139,8 +139,8 @@ static bool bring_thread(struct call call)
     return !call.is_new || start_in_pool(call.pool);
 }
 
-/* Tries again to start a thread that the pool lacks, under the latch, which is given back meanwhile: the pool may be gone then. Answers false where it is
- * refused again. */
+/* Tries again to start a thread that the pool lacks, under the latch, which is given back meanwhile: the pool may be gone then. Answers false where
+ * it is refused again. */
 static bool bring_lacking(PTP_POOL pool)
 {
     if (!wants_thread(pool)) {

@@ -1,4 +1,4 @@
-/* Within 120 s: 4 passed, 0 failed.
+/* Within 120 s: 5 passed, 0 failed.
  *
  * Sleep sleeps where memory is refused, and where more threads call than there are places, and leaves the last error. */
 #include "refusing.h"
@@ -7,13 +7,17 @@ enum { THREADS = 4100, SLEEP_MS = 30 };
 
 static HANDLE event;
 static pthread_barrier_t all_have_called;
-static LONG refused, short_sleeps;
+static LONG refused, short_sleeps, changed_errors;
 
 static void *sleeps(void *unused)
 {
     (void)unused;
-    if (!SetEvent(event))
+    if (!SetEvent(event)) {
         InterlockedIncrement(&refused);
+        SetLastError(12345);
+        Sleep(1);
+        InterlockedExchangeAdd(&changed_errors, GetLastError() != 12345);
+    }
     pthread_barrier_wait(&all_have_called);
     const double began = now_ms();
     Sleep(SLEEP_MS);
@@ -43,5 +47,6 @@ int main(void)
         pthread_join(threads[i], NULL);
     IS(refused, THREADS - 4095);
     IS(short_sleeps, 0);
+    IS(changed_errors, 0);
     return counted();
 }
