@@ -66,11 +66,17 @@
 
 #include "win32/storage.c"
 
+#include "win32/fibers.c"
+
 #include "win32/open.c"
 
 #include "win32/threads.c"
 
 #include "win32/handles.c"
+
+#include "win32/native.c"
+
+#include "win32/files.c"
 
 #include "win32/process.c"
 

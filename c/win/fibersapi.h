@@ -16,6 +16,8 @@ DWORD FlsAlloc(PFLS_CALLBACK_FUNCTION callback);
 BOOL FlsFree(DWORD index);
 PVOID FlsGetValue(DWORD index);
 BOOL FlsSetValue(DWORD index, PVOID value);
+/* FALSE. */
+BOOL IsThreadAFiber(void);
 
 #ifdef __cplusplus
 }

@@ -1,0 +1,6 @@
+/* ---- Fibers: there are none. */
+
+BOOL IsThreadAFiber(void)
+{
+    return FALSE;
+}
