@@ -66,8 +66,6 @@
 
 #include "win32/storage.c"
 
-#include "win32/fibers.c"
-
 #include "win32/open.c"
 
 #include "win32/threads.c"
@@ -81,6 +79,8 @@
 #include "win32/process.c"
 
 #include "win32/processors.c"
+
+#include "win32/fibers.c"
 
 #include "win32/system.c"
 

@@ -202,7 +202,6 @@ static void handles_and_threads(void)
     ANSWERS(SetThreadIdealProcessor(thread, MAXIMUM_PROCESSORS), 0, UNTOUCHED);
     ANSWERS(SetThreadIdealProcessor(thread, MAXIMUM_PROCESSORS + 1), UINT32_MAX, ERROR_INVALID_PARAMETER);
     ANSWERS(SetThreadIdealProcessor(NULL, 0), UINT32_MAX, ERROR_INVALID_HANDLE);
-    IS(IsThreadAFiber(), FALSE);
     GetCurrentThreadStackLimits(&low, &high);
     IS(low < (ULONG_PTR)__builtin_frame_address(0) && (ULONG_PTR)__builtin_frame_address(0) < high, 1);
 }
