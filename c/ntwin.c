@@ -73,9 +73,15 @@
 
 #include "win32/handles.c"
 
+#include "win32/native.c"
+
+#include "win32/files.c"
+
 #include "win32/process.c"
 
 #include "win32/processors.c"
+
+#include "win32/fibers.c"
 
 #include "win32/system.c"
 

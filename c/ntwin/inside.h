@@ -100,6 +100,7 @@ struct life {
     pid_t task;              /* the system's number of it */
     int priority;
     uint8_t boost;           /* whether waits raise its priority (win32/threads.c) */
+    uint8_t ideal;           /* 1 more than the processor on which it is to run; 0 where it has none */
     WCHAR *description;      /* null where there is none */
     int64_t began, ended;    /* in UTC */
     uint64_t used[2];        /* how long it ran, once it has ended, in units of 100 ns: as the program, and in the system */

@@ -113,9 +113,13 @@ HANDLE CreateThread(LPSECURITY_ATTRIBUTES attributes, SIZE_T stack, LPTHREAD_STA
     return made;
 }
 
+/* Returns where the caller runs on the thread's own stack; else it exits there (win32/fibers.c). */
+static void exit_by_own_stack(DWORD code);
+
 /* As on Windows no destructor is called on the way, and no memory is needed, where CreateThread made the thread. */
 void ExitThread(DWORD code)
 {
+    exit_by_own_stack(code);
     if (own.seat != NULL)
         own.seat->exit_code = code;
     if (own.end != NULL)

@@ -12,8 +12,9 @@ extern "C" {
 #define HANDLE_FLAG_INHERIT 0x1u
 #define HANDLE_FLAG_PROTECT_FROM_CLOSE 0x2u
 
-/* No handle has a flag: `flags` is 0 where the handle names something. */
+/* HANDLE_FLAG_INHERIT is kept, without effect; a handle can't be kept from CloseHandle: ERROR_NOT_SUPPORTED. */
 BOOL GetHandleInformation(HANDLE handle, LPDWORD flags);
+BOOL SetHandleInformation(HANDLE handle, DWORD mask, DWORD flags);
 
 #ifdef __cplusplus
 }

@@ -1,5 +1,5 @@
 /* SPDX-License-Identifier: MIT OR Apache-2.0 */
-/* Completion ports for packets that a program posts itself: no files here. */
+/* Completion ports for packets that a program posts itself, and operations that it completes itself: no files here. */
 #ifndef NTWIN_IOAPISET_H
 #define NTWIN_IOAPISET_H
 
@@ -38,6 +38,15 @@ BOOL PostQueuedCompletionStatus(HANDLE port, DWORD bytes, ULONG_PTR key, LPOVERL
 BOOL GetQueuedCompletionStatus(HANDLE port, LPDWORD bytes, PULONG_PTR key, LPOVERLAPPED *overlapped, DWORD ms);
 /* The same for up to `count` packets, of which it waits for one. An alertable wait ends with WAIT_IO_COMPLETION where an APC is queued. */
 BOOL GetQueuedCompletionStatusEx(HANDLE port, LPOVERLAPPED_ENTRY entries, ULONG count, PULONG removed, DWORD ms, BOOL alertable);
+
+/* Whether the program has put another state than STATUS_PENDING there. */
+#define HasOverlappedIoCompleted(overlapped) ((DWORD)(overlapped)->Internal != STATUS_PENDING)
+/* What it has put there: FALSE and ERROR_IO_INCOMPLETE while that is STATUS_PENDING, or a wait for the operation's event. The file is not looked at, but
+ * waited for where there is no event. */
+BOOL GetOverlappedResult(HANDLE file, LPOVERLAPPED overlapped, LPDWORD bytes, BOOL waits);
+/* No handle is a file's: ERROR_INVALID_HANDLE. */
+BOOL CancelIo(HANDLE file);
+BOOL CancelIoEx(HANDLE file, LPOVERLAPPED overlapped);
 
 #ifdef __cplusplus
 }

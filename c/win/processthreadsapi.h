@@ -50,6 +50,10 @@ BOOL GetThreadPriorityBoost(HANDLE thread, PBOOL is_disabled);
 /* The system shows the first 15 characters. LocalFree frees what is answered. */
 HRESULT SetThreadDescription(HANDLE thread, PCWSTR description);
 HRESULT GetThreadDescription(HANDLE thread, PWSTR *description);
+/* The processor is kept, without effect: the number before, MAXIMUM_PROCESSORS where there was none, or -1; by MAXIMUM_PROCESSORS it stays. */
+DWORD SetThreadIdealProcessor(HANDLE thread, DWORD processor);
+/* Where the caller's stack begins and ends. */
+void GetCurrentThreadStackLimits(PULONG_PTR low, PULONG_PTR high);
 /* An address that no other thread has. (What is there is no concern of a program's.) */
 struct _TEB *NtCurrentTeb(void);
 /* Lets other threads run. Answers TRUE, whether one did or not. */

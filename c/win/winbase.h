@@ -4,6 +4,7 @@
 #define NTWIN_WINBASE_H
 
 #include "slist.h"
+#include "lstrings.h"
 #include "debugapi.h"
 #include "errhandlingapi.h"
 #include "fibersapi.h"
@@ -38,6 +39,15 @@ extern "C" {
 /* Answers the length of the text, in English, with its line's end; 0, with the last error set, where there is none. */
 DWORD FormatMessageA(DWORD flags, LPCVOID source, DWORD error, DWORD language, LPSTR buffer, DWORD size, va_list *arguments);
 DWORD FormatMessageW(DWORD flags, LPCVOID source, DWORD error, DWORD language, LPWSTR buffer, DWORD size, va_list *arguments);
+
+/* ---- Files: there are none, and each handle is refused with ERROR_INVALID_HANDLE. */
+
+#define FILE_SKIP_COMPLETION_PORT_ON_SUCCESS 0x1u
+#define FILE_SKIP_SET_EVENT_ON_HANDLE 0x2u
+
+typedef void(WINAPI *LPOVERLAPPED_COMPLETION_ROUTINE)(DWORD error, DWORD bytes, LPOVERLAPPED overlapped);
+BOOL SetFileCompletionNotificationModes(HANDLE file, UCHAR flags);
+BOOL BindIoCompletionCallback(HANDLE file, LPOVERLAPPED_COMPLETION_ROUTINE routine, ULONG flags);
 
 /* ---- Waits of a thread with a queue of messages. There is none, so these are the waits without it, for up to 63 objects. */
 

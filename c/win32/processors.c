@@ -304,3 +304,28 @@ BOOL GetLogicalProcessorInformation(PSYSTEM_LOGICAL_PROCESSOR_INFORMATION buffer
     buffer->Relationship = RelationNumaNode;
     return TRUE;
 }
+
+DWORD SetThreadIdealProcessor(HANDLE thread, DWORD processor)
+{
+    struct seat *caller, *seat = begin_with_thread(thread, &caller);
+    if (seat == NULL)
+        return UINT32_MAX;
+    const DWORD before = seat->life.ideal == 0 ? MAXIMUM_PROCESSORS : seat->life.ideal - 1u;
+    const bool is_there = processor < MAXIMUM_PROCESSORS && (processors_of_all() >> processor & 1) == 1;
+    if (is_there)
+        seat->life.ideal = (uint8_t)(processor + 1);
+    return end_look(caller, is_there || processor == MAXIMUM_PROCESSORS ? 0 : ERROR_INVALID_PARAMETER) ? before : UINT32_MAX;
+}
+
+void GetCurrentThreadStackLimits(PULONG_PTR low, PULONG_PTR high)
+{
+    pthread_attr_t attributes;
+    void *begin = NULL;
+    size_t size = 0;
+    if (pthread_getattr_np(pthread_self(), &attributes) == 0) {
+        pthread_attr_getstack(&attributes, &begin, &size);
+        pthread_attr_destroy(&attributes);
+    }
+    *low = (ULONG_PTR)begin;
+    *high = (ULONG_PTR)begin + size;
+}

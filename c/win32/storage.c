@@ -21,6 +21,8 @@ struct storage {
     struct storage *earlier, *later;
 };
 static _Thread_local struct storage *storage __attribute__((tls_model("initial-exec")));
+/* Where the thread runs a fiber, what that has in the slots of FlsAlloc; else null, and the thread has it (fibers.c). */
+static _Thread_local struct storage *storage_of_fiber __attribute__((tls_model("initial-exec")));
 
 static struct slot tls_slots[TLS_SLOTS], fls_slots[FLS_SLOTS];
 /* (No FLS slot has index 0.) */
@@ -43,6 +45,32 @@ static bool is_slot(enum slot_kind kind, DWORD index)
 
 static void end_storage(void *of_thread);
 
+/* What the caller has in slots of this kind; null where it has none yet. */
+static inline struct storage *storage_of(enum slot_kind kind)
+{
+    return kind == FLS && storage_of_fiber != NULL ? storage_of_fiber : storage;
+}
+
+/* Those whose values are handed back where a slot is freed, under the latch. */
+static void list_storage(struct storage *made)
+{
+    made->earlier = NULL;
+    made->later = storages.threads;
+    if (made->later != NULL)
+        made->later->earlier = made;
+    storages.threads = made;
+}
+
+static void unlist_storage(struct storage *it)
+{
+    if (it->earlier != NULL)
+        it->earlier->later = it->later;
+    else
+        storages.threads = it->later;
+    if (it->later != NULL)
+        it->later->earlier = it->earlier;
+}
+
 /* The caller's storage, which it gets now. Null where memory is refused. */
 static struct storage *make_storage(void)
 {
@@ -53,12 +81,8 @@ static struct storage *make_storage(void)
     if (!storages.has_key)
         storages.has_key = pthread_key_create(&storages.leaving, end_storage) == 0;
     const bool is_kept = storages.has_key && pthread_setspecific(storages.leaving, made) == 0;
-    if (is_kept) {
-        made->later = storages.threads;
-        if (made->later != NULL)
-            made->later->earlier = made;
-        storages.threads = made;
-    }
+    if (is_kept)
+        list_storage(made);
     give_latch(&storages.latch);
     if (!is_kept) {
         free(made);
@@ -77,8 +101,8 @@ static inline struct value *value_in(struct storage *of_thread, enum slot_kind k
 /* The place of the caller's value; null where memory is refused. */
 static struct value *make_value(enum slot_kind kind, DWORD index)
 {
-    struct storage *mine = storage != NULL ? storage : make_storage();
-    if (mine == NULL)
+    struct storage *mine = storage_of(kind);
+    if (mine == NULL && (mine = make_storage()) == NULL)
         return NULL;
     if (value_in(mine, kind, index) == NULL)
         atomic_store_explicit(&mine->blocks[kind][index / SLOTS_OF_A_BLOCK], calloc(SLOTS_OF_A_BLOCK, sizeof(struct value)),
@@ -121,23 +145,28 @@ static bool hand_back_values(struct storage *of_thread)
     return is_any;
 }
 
-/* The thread ends: the callbacks get its values, those too that callbacks set, as often as destructors are called. */
+/* The callbacks get all values, those too that callbacks set, as often as destructors are called; and there is none any more. */
+static void empty_storage(struct storage *it)
+{
+    for (int round = 0; round < PTHREAD_DESTRUCTOR_ITERATIONS && hand_back_values(it); round++)
+        continue;
+    take_latch(&storages.latch);
+    unlist_storage(it);
+    if (it == storage)
+        storage = NULL;
+    give_latch(&storages.latch);
+    for (int block = 0; block < SLOT_KINDS * BLOCKS; block++)
+        free(atomic_load_explicit(&it->blocks[block / BLOCKS][block % BLOCKS], memory_order_relaxed));
+}
+
+static void end_fiber_of_thread(void);
+
+/* The thread ends, and the fiber with it that it runs. */
 static void end_storage(void *of_thread)
 {
     struct storage *mine = of_thread;
-    for (int round = 0; round < PTHREAD_DESTRUCTOR_ITERATIONS && hand_back_values(mine); round++)
-        continue;
-    take_latch(&storages.latch);
-    if (mine->earlier != NULL)
-        mine->earlier->later = mine->later;
-    else
-        storages.threads = mine->later;
-    if (mine->later != NULL)
-        mine->later->earlier = mine->earlier;
-    storage = NULL;
-    give_latch(&storages.latch);
-    for (int block = 0; block < SLOT_KINDS * BLOCKS; block++)
-        free(atomic_load_explicit(&mine->blocks[block / BLOCKS][block % BLOCKS], memory_order_relaxed));
+    end_fiber_of_thread();
+    empty_storage(mine);
     free(mine);
 }
 
@@ -205,7 +234,8 @@ static inline PVOID get_value(enum slot_kind kind, DWORD index)
         return NULL;
     }
     own.last_error = ERROR_SUCCESS;
-    struct value *value = storage != NULL ? value_in(storage, kind, index) : NULL;
+    struct storage *mine = storage_of(kind);
+    struct value *value = mine != NULL ? value_in(mine, kind, index) : NULL;
     if (value == NULL
         || atomic_load_explicit(&value->turn, memory_order_relaxed)
             != atomic_load_explicit(&slots_of[kind].slots[index].turn, memory_order_relaxed))
