@@ -37,7 +37,7 @@ case $* in
 version) echo "$KIT"; exit 0 ;;
 *--only*) echo only=0 proved=0; exit "$READS" ;;
 lib*) echo built > out/rlib/built ;;
-run*) printf '#!/bin/sh\\necho 9\\n' > "out/${PWD##*/}"; chmod +x "out/${PWD##*/}" ;;
+run*) printf '#!/bin/sh\\nread -r it < "%s"\\necho "$it"\\n' "$CALLED.number" > "out/${PWD##*/}"; chmod +x "out/${PWD##*/}" ;;
 test*) printf '#!/bin/sh\\n[ "$1" = --list ] && echo "one: test" && exit; exit "$TEST"\\n' > "out/${PWD##*/}_tests"; chmod +x "out/${PWD##*/}_tests" ;;
 esac
 echo work > out/incremental/work
@@ -158,6 +158,9 @@ def kept(folder):
     os.environ["TEST"] = "1"
     yield ran(folder)[1] == ["rows"]
     os.environ["TEST"] = "0"
+    write(f"{folder}/called.number", "8\n")
+    yield ran(folder)[1] == ["app"]
+    write(f"{folder}/called.number", "9\n")
     # (the mutant is proved from here on)
     for _ in range(2):
         passed, failed, *_ = ran(folder, refused=PROVED, refused_status="0\n")
@@ -224,6 +227,7 @@ def run(progress):
     for scene in (judged, not_proved, kept, taken, told, as_a_whole):
         with tempfile.TemporaryDirectory() as folder, contextlib.ExitStack() as stack:
             write(f"{folder}/bin/rt", RT, 0o755)
+            write(f"{folder}/called.number", "9\n")
             stack.enter_context(unittest.mock.patch.dict(os.environ, {"XDG_CACHE_HOME": f"{folder}/cache", "CALLED": f"{folder}/called", "KIT": "a kit of scenes", "TEST": "0", "READS": "0"}))
             stack.enter_context(unittest.mock.patch.object(kit, "find_rt", lambda folder=folder: f"{folder}/bin/rt"))
             for number, holds in enumerate(scene(folder), 1):
