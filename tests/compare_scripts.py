@@ -3,7 +3,7 @@ what it is to write is there once it is drawn."""
 import collections
 import random
 
-from machine import CONTEXT, MODIFY, SYNCHRONIZE, Machine, Mutex, kind_of, signaled
+from machine import CONTEXT, MODIFY, MS, SYNCHRONIZE, Machine, Mutex, Timer, kind_of, signaled
 from orders import Names, lines_of
 
 CREATIONS = ("event e", "event e manual", "event e set", "event e manual set", *["mutex m owned"] * 2, "mutex m", "timer x", "timer x manual")
@@ -17,7 +17,7 @@ STEPS = (0, 1, 4999, 5000, 10000, 10000, 20000, 70000)
 
 # Each kind of answer and of ended wait must have come. Not among them: a mutex that its owner holds 2147483647 deep, and all 65,536 handles, which
 # no script of some length comes to.
-SIGNALS = {"set": "5 6", "reset": "5 6", "pulse": "5 6", "unlock": "6 288", "arm": "5 6 87", "cancel": "5 6", "apc": "5 6 31", "close": "6", "exit": ""}
+SIGNALS = {"set": "5 6", "reset": "5 6", "pulse": "5 6", "unlock": "6 288", "arm": "5 6 87", "cancel": "5 6", "apc": "5 6 31", "close": "6"}
 WAITS = {"any": "5 6 87", "all": "5 6 87", "swap": "5 6 288 298"}
 WANTED = {
     *(f"{keyword}: ok" for keyword in SIGNALS),
@@ -28,7 +28,7 @@ WANTED = {
     *(f"any{ends}: {it}" for ends in ("", " ends") for it in ("a later object", "a later abandoned")),
     *(f"{keyword}: handle" for keyword in ("event", "semaphore", "mutex", "timer", "dup")),
     *("semaphore: error 87", "dup: error 5", "dup: error 6", "release: previous", *(f"release: error {it}" for it in (5, 6, 87, 298))),
-    *("sleep: object", "sleep: APCs", "sleep: pending", "sleep ends: object", "sleep ends: APCs"),
+    *("exit: ok", "sleep: object", "sleep: APCs", "sleep: pending", "sleep ends: object", "sleep ends: APCs"),
     *("next: apc", "next: apc of a timer", "next: none", "tick: ok", "tick: error 536870917"),
     *(f"a call: error {0x20000000 + it}" for it in (1, 2, 3)),
     *("two waits end by one call", "two waits end by one tick", "four waits end by one line"),
@@ -144,8 +144,14 @@ class Draw:
     def time(self, who):
         """(The first thread mostly waits for nothing: so there is one that calls.)"""
         waits = who or not self.is_crowd and self.rng.random() < 0.1
-        time = self.rng.choice(["inf"] * 40 + TIMES if self.is_crowd else TIMES) if waits else "0"
+        due = self.due_times() if self.rng.random() < 0.3 else []
+        time = self.rng.choice(due or (["inf"] * 40 + TIMES if self.is_crowd else TIMES)) if waits else "0"
         return f"{time} {self.rng.choice(['plain', 'alertable'])}"
+
+    def due_times(self):
+        """The times after which timers are due: who waits so long times out at such a moment."""
+        left = [it.armed.due - self.machine.now for it in self.machine.objects if isinstance(it, Timer) and it.armed]
+        return [str(it // MS) for it in left if 0 < it < 100 * MS and it % MS == 0]
 
     def creation(self, _who):
         if self.rng.random() < 0.25:
