@@ -31,9 +31,7 @@ const ANSWERS: u32 = 3;
 pub enum Way {
     Call,
     Tick,
-    /// Sets this event, where more than one thread sleeps.
-    SetFor(u32),
-    /// The same, after a second.
+    /// Sets this event, after a second.
     SetLater(u32),
     /// A wait that begins by a signal, and ends at once.
     Begin,
@@ -199,7 +197,7 @@ pub fn wake<N: Named, R: Wait + Clock>(
     thread::sleep(rt, Duration::from_millis(pause));
     match way {
         Way::Call => set(rt, front, pass, STARTS, told),
-        Way::SetFor(event) | Way::SetLater(event) => set(rt, front, pass, event, told),
+        Way::SetLater(event) => set(rt, front, pass, event, told),
         Way::Tick => {
             tick(rt, front, &mut pass, told);
             Held::Pass(pass)
@@ -304,7 +302,7 @@ fn one_call_wakes_three_sleepers(rt: HostRuntime) -> Result<(), Fail> {
         return Ok(());
     }
     const JOBS: &[Job] = &[
-        Job::Wake(Way::SetFor(4)),
+        Job::Wake(Way::SetLater(4)),
         Job::Await {
             event: 4,
             manner: Manner::Asleep,
