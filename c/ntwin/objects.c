@@ -35,8 +35,8 @@ HANDLE CreateEventW(LPSECURITY_ATTRIBUTES attributes, BOOL manual, BOOL set, LPC
     return create_event(WIDE(name), event_flags(manual, set), EVENT_ALL_ACCESS);
 }
 
-/* What SetEvent answers that was refused. A handler of signals that has interrupted its thread's wait sets the event by the thread that is yet to come,
- * where one is. */
+/* What SetEvent answers that was refused. A handler of signals that has interrupted its thread's wait sets the event by the thread that is yet to
+ * come, where one is. */
 __attribute__((noinline, cold)) static BOOL set_event_beside_wait(struct seat *seat, uint32_t event, uint32_t refused)
 {
     struct nt_reply reply;
