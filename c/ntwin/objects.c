@@ -51,7 +51,9 @@ BOOL SetEvent(HANDLE event)
     if (seat == NULL)
         return FALSE;
     const uint32_t number = number_of(seat, event), refused = nt_set_event(&waiting.dispatcher, seat->number, number, &seat->reply);
-    return refused == 0 ? finish(seat, 0) : set_event_beside_wait(seat, number, refused);
+    if (__builtin_expect(refused != 0, false))
+        return set_event_beside_wait(seat, number, refused);
+    return finish(seat, 0);
 }
 
 BOOL ResetEvent(HANDLE event)
