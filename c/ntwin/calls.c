@@ -127,7 +127,7 @@ static DWORD rights_of(enum kind kind, DWORD access)
 __attribute__((always_inline)) static inline struct seat *begin(void)
 {
     struct seat *seat = join();
-    return seat != NULL && lock(seat) ? seat : NULL;
+    return seat != NULL && __builtin_expect(lock(seat), true) ? seat : NULL;
 }
 
 /* What a call answers that was refused. */

@@ -196,8 +196,8 @@ static inline bool take_as_seen(uint32_t seen)
     return atomic_compare_exchange_strong_explicit(&waiting.lock, &seen, TAKEN, memory_order_acquire, memory_order_relaxed);
 }
 
-/* Sleeps on the lock. Meanwhile the caller's handlers of signals may call. And where the caller is such a handler, it may have interrupted the favoured
- * thread after that was inside, and before it woke who sleeps until it is not. */
+/* Sleeps on the lock. Meanwhile the caller's handlers of signals may call. And where the caller is such a handler, it may have interrupted the
+ * favoured thread after that was inside, and before it woke who sleeps until it is not. */
 static void sleep_on_lock(void)
 {
     struct seat *seat = own.seat;
@@ -272,8 +272,8 @@ static inline void take_lock(void)
         take_in_a_step();
 }
 
-/* The same, where the thread of this seat calls. False, with the last error set, where that is a handler of signals which has interrupted a call of its
- * thread that has the lock or takes it. */
+/* The same, where the thread of this seat calls. False, with the last error set, where that is a handler of signals which has interrupted a call
+ * of its thread that has the lock or takes it. */
 __attribute__((noinline)) static bool take_in_turn(struct seat *caller)
 {
     if (inside_of(caller) != 0 || takes_lock(caller)) {

@@ -36,8 +36,8 @@ HANDLE CreateEventW(LPSECURITY_ATTRIBUTES attributes, BOOL manual, BOOL set, LPC
     return create_event(WIDE(name), event_flags(manual, set), EVENT_ALL_ACCESS);
 }
 
-/* What SetEvent answers that was refused. A handler of signals that has interrupted its thread's wait sets the event by the thread that is yet to come,
- * where one is. */
+/* What SetEvent answers that was refused. A handler of signals that has interrupted its thread's wait sets the event by the thread that is yet to
+ * come, where one is. */
 __attribute__((noinline, cold)) static BOOL set_event_beside_wait(struct seat *seat, uint32_t event, uint32_t refused)
 {
     struct nt_reply reply;
@@ -52,7 +52,9 @@ BOOL SetEvent(HANDLE event)
     if (seat == NULL)
         return FALSE;
     const uint32_t number = number_of(seat, event), refused = nt_set_event(&waiting.dispatcher, seat->number, number, &seat->reply);
-    return refused == 0 ? finish(seat, 0) : set_event_beside_wait(seat, number, refused);
+    if (__builtin_expect(refused != 0, false))
+        return set_event_beside_wait(seat, number, refused);
+    return finish(seat, 0);
 }
 
 BOOL ResetEvent(HANDLE event)

@@ -1,0 +1,228 @@
+/* Critical sections, initializations, barriers and completion ports in pairs (pairs.h): what a program has freed, by all that it may know, is not touched
+ * again, nobody waits in vain, and each packet is gotten once. */
+#define TEST "more_steps.c"
+#include "pairs.h"
+
+/* ---- Critical sections, initializations and barriers. */
+
+static void enter_and_leave(void)
+{
+    EnterCriticalSection(&shared->section);
+    LeaveCriticalSection(&shared->section);
+}
+
+static act *const wants_section = enter_and_leave;
+
+/* (It is left by another thread than has entered it, of which the section knows nothing.) */
+static void section_entered(void)
+{
+    InitializeCriticalSection(&shared->section);
+    EnterCriticalSection(&shared->section);
+}
+
+static void section_entered_and_wanted(void)
+{
+    section_entered();
+    begin_waiter(&wants_section);
+}
+
+static void leave_section(void)
+{
+    LeaveCriticalSection(&shared->section);
+}
+
+static void enter_and_delete(void)
+{
+    enter_and_leave();
+    DeleteCriticalSection(&shared->section);
+    free_shared();
+}
+
+static void enter_and_delete_after_waiter(void)
+{
+    enter_and_leave();
+    end_waiter();
+    DeleteCriticalSection(&shared->section);
+    free_shared();
+}
+
+static LONG initializations, has_failed;
+
+static BOOL CALLBACK initialize(PINIT_ONCE once, PVOID parameter, PVOID *context)
+{
+    (void)once;
+    *context = (PVOID)(uintptr_t)8;
+    InterlockedIncrement(&initializations);
+    return parameter == NULL || InterlockedExchange(&has_failed, 1) == 1;
+}
+
+static void not_initialized(void)
+{
+    initializations = has_failed = 0;
+}
+
+static void initialize_once(void)
+{
+    PVOID context = NULL;
+    must(InitOnceExecuteOnce(&shared->once, initialize, NULL, &context) && context == (PVOID)(uintptr_t)8);
+}
+
+static void was_initialized_once(void)
+{
+    must(initializations == 1);
+}
+
+/* The first initialization fails, whose ever that is. */
+static void initialize_after_failure(void)
+{
+    InitOnceExecuteOnce(&shared->once, initialize, &has_failed, NULL);
+}
+
+static void was_initialized_twice(void)
+{
+    must(initializations == 2 || (initialize_after_failure(), initializations == 2));
+}
+
+static void barrier_of_two(void)
+{
+    must(InitializeSynchronizationBarrier(&shared->barrier, 2, 0));
+}
+
+static void enter_barrier(void)
+{
+    EnterSynchronizationBarrier(&shared->barrier, 0);
+}
+
+static void enter_barrier_twice(void)
+{
+    enter_barrier();
+    enter_barrier();
+}
+
+static void enter_barrier_and_delete(void)
+{
+    enter_barrier();
+    DeleteSynchronizationBarrier(&shared->barrier);
+    free_shared();
+}
+
+static void sections_and_others(void)
+{
+    try_pair("LeaveCriticalSection", section_entered, leave_section, enter_and_delete, nothing, 5);
+    try_pair("LeaveCriticalSection, wanted", section_entered_and_wanted, leave_section, enter_and_delete_after_waiter, nothing, 10);
+    try_pair("InitOnceExecuteOnce", not_initialized, initialize_once, initialize_once, was_initialized_once, 30);
+    try_pair("InitOnceExecuteOnce, of which the first fails", not_initialized, initialize_after_failure, initialize_after_failure,
+             was_initialized_twice, 30);
+    try_pair("EnterSynchronizationBarrier, which is then deleted", barrier_of_two, enter_barrier, enter_barrier_and_delete, nothing, 30);
+    try_pair("EnterSynchronizationBarrier", barrier_of_two, enter_barrier_twice, enter_barrier_twice, nothing, 30);
+}
+
+/* ---- Completion ports: each packet is gotten once, and nobody stays in a port. */
+
+static HANDLE port, stepped_thread;
+static LONG gotten, apcs;
+
+static BOOL get_packet(DWORD ms)
+{
+    DWORD bytes;
+    ULONG_PTR key;
+    LPOVERLAPPED overlapped;
+    return GetQueuedCompletionStatus(port, &bytes, &key, &overlapped, ms);
+}
+
+static void open_port(void)
+{
+    must((port = CreateIoCompletionPort(INVALID_HANDLE_VALUE, NULL, 0, 1)) != NULL);
+    gotten = apcs = 0;
+}
+
+static void post_packet(void)
+{
+    must(PostQueuedCompletionStatus(port, 0, 0, NULL));
+}
+
+/* The thread that is stepped has its event, and a handle. */
+static void ask_first(void)
+{
+    must(!get_packet(0) && DuplicateHandle(CURRENT_PROCESS, CURRENT_THREAD, CURRENT_PROCESS, &stepped_thread, 0, FALSE, DUPLICATE_SAME_ACCESS));
+}
+
+static void get_within_a_ms(void)
+{
+    gotten = get_packet(1);
+}
+
+static void CALLBACK count_apc(ULONG_PTR none)
+{
+    (void)none;
+    apcs++;
+}
+
+static void get_beside_apcs(void)
+{
+    OVERLAPPED_ENTRY entry;
+    ULONG removed;
+    while (!GetQueuedCompletionStatusEx(port, &entry, 1, &removed, INFINITE, TRUE))
+        must(GetLastError() == WAIT_IO_COMPLETION);
+    gotten = TRUE;
+    SleepEx(0, TRUE);
+}
+
+static void queue_apc_and_post(void)
+{
+    must(QueueUserAPC(count_apc, stepped_thread, 0));
+    post_packet();
+}
+
+/* The packet was gotten, or is there to be gotten; then nobody has one, and nobody is in the port. */
+static void close_port_of_one_packet(void)
+{
+    must(get_packet(0) == !gotten && !get_packet(0));
+    must(waiting.ports[listed_number_of(port)]->users == 0 && waiting.ports[listed_number_of(port)]->running == 0);
+    must(CloseHandle(port) && CloseHandle(stepped_thread));
+}
+
+static void close_port_after_apc(void)
+{
+    must(apcs == 1);
+    close_port_of_one_packet();
+}
+
+static void open_port_with_two_packets(void)
+{
+    open_port();
+    post_packet();
+    post_packet();
+}
+
+/* The thread has the first packet, and so nobody gets the second before it ends. */
+static void get_first(void)
+{
+    must(get_packet(0));
+    must(DuplicateHandle(CURRENT_PROCESS, CURRENT_THREAD, CURRENT_PROCESS, &stepped_thread, 0, FALSE, DUPLICATE_SAME_ACCESS));
+}
+
+static void get_second(void)
+{
+    gotten = get_packet(INFINITE);
+}
+
+static void ports(void)
+{
+    stepped.before = ask_first;
+    try_pair("GetQueuedCompletionStatus, for 1 ms", open_port, get_within_a_ms, post_packet, close_port_of_one_packet, 50);
+    try_pair("GetQueuedCompletionStatusEx, alertable", open_port, get_beside_apcs, queue_apc_and_post, close_port_after_apc, 50);
+    stepped.before = get_first;
+    stepped.to_the_end = true;
+    try_pair("the end of a thread with a packet", open_port_with_two_packets, nothing, get_second, close_port_of_one_packet, 30);
+    stepped.to_the_end = false;
+    stepped.before = NULL;
+}
+
+int main(void)
+{
+    begin_pairs();
+    sections_and_others();
+    ports();
+    return counted_checks();
+}
