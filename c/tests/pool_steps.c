@@ -1,16 +1,15 @@
 /* Pairs of a call of the pool and a counter-call, in each window of one instruction (step.h): what the library has freed, since a callback or the
  * program closed it, is not touched again; each callback comes once; and nobody waits in vain. */
-#define _GNU_SOURCE
-#include <stdbool.h>
-#include <stddef.h>
-static void *take_page(size_t size);
-static void give_page(void *at);
-static bool is_full; /* the system has no thread more */
 #define LOOKS_AT_LOCK 1
 #define LOOKS_AT_WORD 1
 #define WAITS_PER_TRY 4096
 #define RETRY_MS 1
+#include "step.h"
+
 #include "../ntwin/inside.h"
+static void *take_page(size_t size);
+static void give_page(void *at);
+static bool is_full; /* the system has no thread more */
 #define malloc(size) take_page(size)
 #define calloc(count, size) take_page((count) * (size))
 #define free(at) give_page(at)
@@ -23,7 +22,11 @@ static bool is_full; /* the system has no thread more */
 
 #define counted counted_checks /* (ntwin.c has another.) */
 #include "check.h"
-#include "step.h"
+
+static bool is_under_the_lock(void)
+{
+    return lock_is(TAKEN) || lock_is(WANTED) || (own.seat != NULL && inside_of(own.seat) != 0);
+}
 
 enum { PAGE = 4096 };
 static const size_t MOST_PAGES = 1 << 20;

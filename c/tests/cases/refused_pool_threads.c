@@ -5,6 +5,13 @@
 #include "creating.h"
 #include "../settled.h"
 
+/* (A thread of a pool may be on its way out as the process ends.) */
+const char *__tsan_default_options(void);
+UNSANITIZED const char *__tsan_default_options(void)
+{
+    return "report_thread_leaks=0";
+}
+
 static LONG is_full;
 
 /* While this is set the system takes a while to refuse a thread, once. */
