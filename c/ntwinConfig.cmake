@@ -1,6 +1,6 @@
 # SPDX-License-Identifier: MIT OR Apache-2.0
-# find_package(ntwin) makes two targets: ntwin::ntwin, the shared library, and ntwin::static. ntwin_PROVED says whether their dispatcher is proved. A third,
-# ntwin::port, is for sources that are written for Windows: it defines _WIN32, and the keywords of Microsoft's compilers before all headers.
+# find_package(ntwin) makes two targets: ntwin::ntwin, the shared library, and ntwin::static. ntwin_PROVED says whether their dispatcher is proved.
+# A third, ntwin::port, is for sources that are written for Windows: it defines _WIN32, and the keywords of Microsoft's compilers before all headers.
 set(ntwin_PROVED @IS_PROVED@)
 get_filename_component(_ntwin_prefix "${CMAKE_CURRENT_LIST_DIR}/../../.." ABSOLUTE)
 find_package(Threads REQUIRED)

@@ -1,5 +1,5 @@
-/* Fibers: who runs, in which order, with what in its slots and on its stack; how they end, and how a thread ends with them; and that they go from thread
- * to thread. */
+/* Fibers: who runs, in which order, with what in its slots and on its stack; how they end, and how a thread ends with them; and that they go from
+ * thread to thread. */
 #include <windows.h>
 
 #include "check.h"

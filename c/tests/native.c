@@ -1,5 +1,5 @@
-/* Native calls on the dispatcher's objects: the state that each answers, what it tells of the object, and that the last error stays. Then what there is
- * of files' calls, of handles and threads, and lstrlen and its like. */
+/* Native calls on the dispatcher's objects: the state that each answers, what it tells of the object, and that the last error stays. Then what there
+ * is of files' calls, of handles and threads, and lstrlen and its like. */
 #define _GNU_SOURCE
 #include <windows.h>
 

@@ -41,8 +41,8 @@ BOOL GetQueuedCompletionStatusEx(HANDLE port, LPOVERLAPPED_ENTRY entries, ULONG 
 
 /* Whether the program has put another state than STATUS_PENDING there. */
 #define HasOverlappedIoCompleted(overlapped) ((DWORD)(overlapped)->Internal != STATUS_PENDING)
-/* What it has put there: FALSE and ERROR_IO_INCOMPLETE while that is STATUS_PENDING, or a wait for the operation's event. The file is not looked at, but
- * waited for where there is no event. */
+/* What it has put there: FALSE and ERROR_IO_INCOMPLETE while that is STATUS_PENDING, or a wait for the operation's event. The file is not looked at,
+ * but waited for where there is no event. */
 BOOL GetOverlappedResult(HANDLE file, LPOVERLAPPED overlapped, LPDWORD bytes, BOOL waits);
 /* No handle is a file's: ERROR_INVALID_HANDLE. */
 BOOL CancelIo(HANDLE file);

@@ -1,6 +1,6 @@
 /* SPDX-License-Identifier: MIT OR Apache-2.0 */
-/* Native calls on the dispatcher's objects, as programs find them in ntdll. Each answers a state, and leaves the last error as it was. Times are in units
- * of 100 ns, from now on where negative, else in UTC since 1601, and null for ever; a wait lasts whole milliseconds. */
+/* Native calls on the dispatcher's objects, as programs find them in ntdll. Each answers a state, and leaves the last error as it was. Times are in
+ * units of 100 ns, from now on where negative, else in UTC since 1601, and null for ever; a wait lasts whole milliseconds. */
 #ifndef NTWIN_WINTERNL_H
 #define NTWIN_WINTERNL_H
 

@@ -1,6 +1,6 @@
 /* SPDX-License-Identifier: MIT OR Apache-2.0 */
-/* ---- Fibers: each a stack and registers of its own, which a thread runs until it switches to another. What they have in the slots of FlsAlloc goes with
- * them; all else is the thread's. A thread's first fiber has the thread's own stack. */
+/* ---- Fibers: each a stack and registers of its own, which a thread runs until it switches to another. What they have in the slots of FlsAlloc goes
+ * with them; all else is the thread's. A thread's first fiber has the thread's own stack. */
 
 #include <ucontext.h>
 

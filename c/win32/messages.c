@@ -115,8 +115,8 @@ static char *make_message(DWORD flags, const char *text)
     return made;
 }
 
-/* The place for a message that takes so much room, in letters with so many bytes: the buffer, or one that is made, whose address is put there. Null, with
- * the last error set, where there is none. */
+/* The place for a message that takes this room, in letters of this size: the buffer, or one that is made, whose address is put there. Null, with the
+ * last error set, where there is none. */
 static void *place_of_message(DWORD flags, void *buffer, DWORD size, DWORD room, size_t bytes)
 {
     void *made = buffer;
@@ -132,8 +132,8 @@ static void *place_of_message(DWORD flags, void *buffer, DWORD size, DWORD room,
     return made;
 }
 
-/* The message that a call asks for, which the caller frees; null, with the last error set, where there is none. Where the call makes a buffer, there has
- * to be a place for its address, which is null until then. */
+/* The message that a call asks for, which the caller frees; null, with the last error set, where there is none. Where the call makes a buffer, there
+ * has to be a place for its address, which is null until then. */
 static char *message_asked(DWORD flags, LPCVOID source, DWORD error, void *buffer)
 {
     if ((flags & FORMAT_MESSAGE_ALLOCATE_BUFFER) != 0) {
