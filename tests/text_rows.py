@@ -1,41 +1,39 @@
-"""Rows that stand as text: command lines with what the program answers to them, and scripts with a line of the most bytes that a line may have.
+"""Rows of tests/rows for the program itself: command lines with what it answers, and scripts with a line of the most bytes that a line may have.
 
-`tests/words/NAME.args` has command lines, each a line of words as a shell reads them. The program writes NAME.transcript, says NAME.errors, and
-ends with the status in NAME.status, each empty or 0 where there is no such file. Where NAME.nts is there, it is the script that the words name.
+A block `words NAME` of the file `words` has command lines, each after `$ ` as a shell reads it. The program ends with the `status`, or 0; it writes
+what stands after `> `, and says what stands after `! `. Lines after `| ` are the script that the words name.
 
-`tests/lines/NAME.long` is a script in which a line with `{FILLING}` is filled up to 4096 bytes: with FILLING as often as it has room, and gaps
-for the rest. The program writes NAME.transcript, and says NAME.errors. With a byte more each such line is too long, and what the lines before
-it write is all that is written.
+A block `lines NAME` of the file `lines` has a script after `| `, in which a line with `{FILLING}` is filled up to 4096 bytes: with FILLING as often as
+it has room, and gaps for the rest. With a byte more each such line is too long, and what the lines before it write is all that is written.
 """
-import glob
-import os
 import re
 import shlex
 
-from launcher_kit import bytes_in
+from rows import blocks_of, lines_of, unescaped
 
-TESTS = os.path.dirname(os.path.realpath(__file__))
 MOST = 4096
+NO_LF = "no LF at the end"
 
 
-def held(stem, ending):
-    return bytes_in(f"{stem}.{ending}").decode()
+def text_after(mark, block):
+    return "".join(f"{it}\n" for it in lines_of(block, mark))
 
 
-def stems(pattern):
-    return sorted(it.rpartition(".")[0] for it in glob.glob(f"{TESTS}/{pattern}"))
+def script_of(block):
+    script = "".join(f"{unescaped(it)}\n" for it in lines_of(block, "|")).encode("latin-1")
+    return script[:-1] if NO_LF in block else script
 
 
 def command_lines():
     """Each command line: what it is, its words, the file to be made for it and what that has, the exit status, and what is written and said."""
-    for stem in stems("words/*.args"):
-        wanted = int(held(stem, "status") or 0), held(stem, "transcript"), held(stem, "errors")
-        for line in held(stem, "args").splitlines():
+    for _, name, block in blocks_of("words"):
+        wanted = int("".join(lines_of(block, "status")) or 0), text_after(">", block), text_after("!", block)
+        script = script_of(block)
+        for line in lines_of(block, "$"):
             words = shlex.split(line)
             # (FILE is the one word after `script` that is not `--`, or `--` where there is none.)
             named = ([it for it in words[1:] if it != "--"] or ["--"])[0]
-            script = bytes_in(f"{stem}.nts")
-            yield f"{stem.rpartition('/')[2]}: {line}", words, (named, script) if script else None, wanted
+            yield f"{name}: {line}", words, (named, script) if script else None, wanted
 
 
 def filled(line, most):
@@ -47,12 +45,11 @@ def filled(line, most):
 
 def long_lines():
     """Each script with lines that are filled up: what it is, its bytes, and what is written and said."""
-    for stem in stems("lines/*.long"):
-        name, transcript = stem.rpartition("/")[2], held(stem, "transcript")
-        lines = bytes_in(f"{stem}.long").splitlines(keepends=True)
+    for _, name, block in blocks_of("lines"):
+        transcript, lines = text_after(">", block), script_of(block).splitlines(keepends=True)
         marked = [at for at, it in enumerate(lines) if b"{" in it]
         whole = [filled(it, MOST) if at in marked else it for at, it in enumerate(lines)]
-        yield name, b"".join(whole), transcript, held(stem, "errors")
+        yield name, b"".join(whole), transcript, text_after("!", block)
         for at in marked:
             longer = [*whole[:at], filled(lines[at], MOST + 1), *whole[at + 1 :]]
             before = [it for it in transcript.splitlines(keepends=True) if re.match(r"\d+:", it) and int(it.split(":")[0]) <= at]

@@ -1,4 +1,4 @@
-//! What words ask for, and threads that run. What the program answers to words of each kind stands in `tests/words`.
+//! What words ask for, and threads that run. What the program answers to words of each kind stands in `tests/rows`.
 
 use crate::devices::Room;
 use crate::expect::expect;

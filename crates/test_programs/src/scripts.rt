@@ -1,5 +1,5 @@
 //! Scripts over devices that fail at each place, and one that uses up the handles. What a script that is read to its end writes is in
-//! `tests/scripts`, and what a line of each length does in `tests/lines`.
+//! `tests/scripts`, and what a line of each length does in `tests/rows`.
 
 use crate::devices::{Given, Room, Taken};
 use crate::expect::{expect, expect_at};
