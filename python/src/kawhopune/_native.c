@@ -481,38 +481,22 @@ static PyObject *get_told(PyObject *self, void *nothing)
     return listed(&((Dispatcher *)self)->nt, told_at);
 }
 
-static PyObject *get_now(PyObject *self, void *nothing)
-{
-    struct nt *const nt = &((Dispatcher *)self)->nt;
-    uint64_t moment = 0;
-    (void)nothing;
-    if (!is_open(nt))
-        return NULL;
-    const uint32_t error = nt_now(nt, &moment);
-    return error ? refuse(error) : unsigned_int(moment);
-}
+/* A reader of one number, which this call writes. */
+#define NUMBER(name, type, call)                                                                                                         \
+    static PyObject *name(PyObject *self, void *nothing)                                                                                 \
+    {                                                                                                                                    \
+        struct nt *const nt = &((Dispatcher *)self)->nt;                                                                                 \
+        type number = 0;                                                                                                                 \
+        (void)nothing;                                                                                                                   \
+        if (!is_open(nt))                                                                                                                \
+            return NULL;                                                                                                                 \
+        const uint32_t error = call(nt, &number);                                                                                        \
+        return error ? refuse(error) : unsigned_int(number);                                                                             \
+    }
 
-static PyObject *get_pending(PyObject *self, void *nothing)
-{
-    struct nt *const nt = &((Dispatcher *)self)->nt;
-    size_t waits = 0;
-    (void)nothing;
-    if (!is_open(nt))
-        return NULL;
-    const uint32_t error = nt_pending(nt, &waits);
-    return error ? refuse(error) : unsigned_int(waits);
-}
-
-static PyObject *get_tested(PyObject *self, void *nothing)
-{
-    struct nt *const nt = &((Dispatcher *)self)->nt;
-    uint64_t waits = 0;
-    (void)nothing;
-    if (!is_open(nt))
-        return NULL;
-    const uint32_t error = nt_tested(nt, &waits);
-    return error ? refuse(error) : unsigned_int(waits);
-}
+NUMBER(get_now, uint64_t, nt_now)
+NUMBER(get_pending, size_t, nt_pending)
+NUMBER(get_tested, uint64_t, nt_tested)
 
 static PyObject *get_threads(PyObject *self, void *nothing)
 {
