@@ -64,13 +64,14 @@ fn promise(rt: &impl Host, apcs: &mut ApcQueues, t: ThreadId) -> Result<(), Allo
 
 /// The timer expires: its APC is queued at the place that it was promised, which takes no memory.
 fn expire(apcs: &mut ApcQueues, routine: u64, moment: u64) -> bool {
-    let Some(t) = apcs.place_of(timer()) else {
+    let timer = timer();
+    let Some(t) = apcs.place_of(timer) else {
         return false;
     };
-    if apcs.queued(t, timer()) {
+    if apcs.queued(t, timer) {
         return false;
     }
-    apcs.push_promised(t, timer(), apc(routine, moment));
+    apcs.push_promised(t, timer, apc(routine, moment));
     true
 }
 
@@ -89,6 +90,7 @@ fn take_in_turn(rt: &impl Host, apcs: &mut ApcQueues) {
         expect_equal(rt, next(rt, apcs, first), wanted, "an APC");
     }
     expect_equal(rt, next(rt, apcs, first), None, "no APC");
+    expect(rt, (second.get() as usize) < apcs.threads(), "a thread");
     expect(rt, !apcs.is_empty(second), "the other thread's");
 }
 
