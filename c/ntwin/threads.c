@@ -330,13 +330,11 @@ static bool join_those_who_are_gone(struct seat *caller)
  * no sanitizer knows pthread_clockjoin_np.) */
 static bool join_until(pthread_t thread, uint64_t moment)
 {
-    _Atomic uint32_t nothing = 0;
+    const struct timespec pause = { .tv_nsec = 1000000 };
     while (pthread_tryjoin_np(thread, NULL) == EBUSY) {
-        const uint64_t now = monotonic();
-        const struct timespec next = in_timespec(now + MOMENTS_PER_SECOND / 1000);
-        if (now >= moment)
+        if (monotonic() >= moment)
             return false;
-        sleep_on(&nothing, 0, &next);
+        nanosleep(&pause, NULL);
     }
     return true;
 }

@@ -23,7 +23,8 @@ static bool is_full; /* the system has no thread more */
 #define counted counted_checks /* (ntwin.c has another.) */
 #include "check.h"
 
-static bool is_under_the_lock(void)
+/* What runs under the dispatcher's lock is for c/tests/schedules to try. */
+static bool is_passed_over(void)
 {
     return lock_is(TAKEN) || lock_is(WANTED) || (own.seat != NULL && inside_of(own.seat) != 0);
 }
