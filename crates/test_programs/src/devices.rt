@@ -3,13 +3,12 @@
 use std::alloc::Global;
 use std::io::{self, ErrorKind, Read, Write};
 
-/// A reader of these bytes, which may fail after them.
+/// A reader of these bytes.
 #[derive(Clone, Copy)]
 pub struct Given<'a> {
-    pub left: &'a [u8],
-    /// How many bytes a read gives at the most.
-    pub at_once: usize,
-    pub fails: bool,
+    left: &'a [u8],
+    at_once: usize,
+    fails: bool,
 }
 
 impl<'a> Given<'a> {
@@ -18,6 +17,24 @@ impl<'a> Given<'a> {
             left: bytes,
             at_once: usize::MAX,
             fails: false,
+        }
+    }
+
+    /// Gives a byte a read.
+    pub fn one_by_one(bytes: &'a [u8]) -> Given<'a> {
+        Given {
+            left: bytes,
+            at_once: 1,
+            fails: false,
+        }
+    }
+
+    /// Gives so many bytes, and then fails.
+    pub fn failing_after(bytes: &'a [u8], count: usize) -> Given<'a> {
+        Given {
+            left: &bytes[..count.min(bytes.len())],
+            at_once: usize::MAX,
+            fails: true,
         }
     }
 }
@@ -35,23 +52,50 @@ impl<'a> Read for Given<'a> {
     }
 }
 
-/// How many bytes a writer takes before it fails, how many of them at once, and whether it hands them on.
+/// How much a writer takes.
 #[derive(Clone, Copy)]
-pub struct Room(pub usize, pub usize, pub bool);
+pub struct Room {
+    whole: usize,
+    at_once: usize,
+    flushes: bool,
+}
 
 impl Room {
-    pub const ENDLESS: Room = Room(usize::MAX, usize::MAX, true);
+    /// Whatever is written.
+    pub const ENDLESS: Room = Room {
+        whole: usize::MAX,
+        at_once: usize::MAX,
+        flushes: true,
+    };
 
-    pub const ONE_BY_ONE: Room = Room(usize::MAX, 1, true);
+    /// A byte a write.
+    pub const ONE_BY_ONE: Room = Room {
+        whole: usize::MAX,
+        at_once: 1,
+        flushes: true,
+    };
 
     /// Nothing, and the writer says so.
-    pub const NONE: Room = Room(usize::MAX, 0, true);
+    pub const NONE: Room = Room {
+        whole: usize::MAX,
+        at_once: 0,
+        flushes: true,
+    };
 
-    pub const NEVER_FLUSHED: Room = Room(usize::MAX, usize::MAX, false);
+    /// All bytes, but the writer fails to hand them on.
+    pub const NEVER_FLUSHED: Room = Room {
+        whole: usize::MAX,
+        at_once: usize::MAX,
+        flushes: false,
+    };
 
-    /// Room for n bytes.
+    /// So many bytes, and then the writer fails.
     pub fn of(whole: usize) -> Room {
-        Room(whole, usize::MAX, true)
+        Room {
+            whole,
+            at_once: usize::MAX,
+            flushes: true,
+        }
     }
 }
 
@@ -76,20 +120,20 @@ impl Taken {
 
 impl Write for Taken {
     fn write(&mut self, buf: &[u8]) -> io::Result<usize> {
-        if self.room.0 == 0 {
+        if self.room.whole == 0 {
             return Err(io::Error::from(ErrorKind::Interrupted));
         }
-        let count = buf.len().min(self.room.0).min(self.room.1);
+        let count = buf.len().min(self.room.whole).min(self.room.at_once);
         if self.bytes.extend_from_slice(&buf[..count]).is_err() {
             self.is_refused = true;
             return Err(io::Error::from(ErrorKind::OutOfMemory));
         }
-        self.room.0 -= count;
+        self.room.whole -= count;
         Ok(count)
     }
 
     fn flush(&mut self) -> io::Result<()> {
-        if self.room.2 {
+        if self.room.flushes {
             Ok(())
         } else {
             Err(io::Error::from(ErrorKind::BrokenPipe))

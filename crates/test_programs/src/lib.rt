@@ -10,7 +10,7 @@ mod devices;
 #[cfg(test)]
 mod expect;
 #[cfg(test)]
-mod ran;
+mod long_lines;
 #[cfg(test)]
 mod refused;
 #[cfg(test)]

@@ -1,12 +1,10 @@
-//! Scripts over devices that fail at each place, and one that uses up the handles. What a script that is read to its end writes is in
-//! `tests/scripts`, and what a line of each length does in `tests/rows`.
+//! Scripts over devices that fail, and scripts that are made for the limit of handles. Those whose transcripts
+//! are known from the Win32 reference are files, in `tests/scripts`.
 
 use crate::devices::{Given, Room, Taken};
 use crate::expect::{expect, expect_at};
-use crate::ran::{Command, Machine, Ran, run};
-use crate::refused::{Host, is_refusing};
-use nt_lines::number_of;
-use nt_script::{Counted, RunFault, Summary};
+use crate::refused::{Host, before_refusal, is_refusing, tell_refused};
+use nt_script::{Counted, RunFault, Summary, run};
 use std::alloc::{AllocError, Global};
 use std::test::Fail;
 
@@ -37,11 +35,89 @@ t1 apc t0 9 3
 t0 next
 ";
 
-fn run_whole<R: Machine>(rt: &R, script: &[u8]) -> Ran {
-    run(rt, Command::Script(Given::all(script)), Room::ENDLESS)
+/// What a run wrote, and what it answered.
+#[derive(Drop)]
+pub struct Outcome {
+    pub written: Vec<u8>,
+    pub answer: Result<Summary, RunFault>,
+    /// Whether the memory to keep what was written was refused.
+    is_lost: bool,
 }
 
-/// How many LFs come before the byte at this place, and one more: the number of its line.
+impl Outcome {
+    /// Whether memory was refused.
+    fn is_refused(&self) -> bool {
+        let written = self.written.as_slice();
+        self.is_lost
+            || matches!(self.answer, Err(RunFault::Memory { .. }))
+            || before_refusal(written).len() < written.len()
+    }
+}
+
+fn run_once(alloc: Global, given: Given<'_>, room: Room) -> Outcome {
+    let mut taken = Taken::new(alloc, room);
+    let answer = run(
+        alloc,
+        &mut Counted::new(given),
+        &mut Counted::new(&mut taken),
+    );
+    Outcome {
+        written: taken.bytes,
+        answer,
+        is_lost: taken.is_refused,
+    }
+}
+
+/// Runs the script, a second time where memory is refused: what stands before the refusal was right.
+fn run_over(rt: &impl Host, given: Given<'_>, room: Room) -> Outcome {
+    let found = run_once(rt.alloc(), given, room);
+    if !found.is_refused() {
+        return found;
+    }
+    tell_refused(rt, "a run");
+    let again = run_once(rt.alloc(), given, room);
+    let sure = before_refusal(found.written.as_slice());
+    let is_same = again.written.as_slice().starts_with(sure);
+    expect(rt, is_same, "what stands before a refusal");
+    again
+}
+
+pub fn outcome_of(rt: &impl Host, script: &[u8]) -> Outcome {
+    run_over(rt, Given::all(script), Room::ENDLESS)
+}
+
+/// The run of the script answers this.
+fn expect_answer(rt: &impl Host, script: &[u8], answer: Result<Summary, RunFault>) {
+    let is_answered = outcome_of(rt, script).answer == answer;
+    expect(rt, is_answered, "what a run answers");
+}
+
+#[test]
+fn a_summary_counts_the_run(rt: HostRuntime) {
+    let summary = Summary {
+        lines: 6,
+        calls: 5,
+        refused: 0,
+        granted: 2,
+        pending: 0,
+    };
+    expect_answer(&rt, HAND_OVER, Ok(summary));
+}
+
+#[test]
+fn a_summary_counts_refusals_and_pending_waits(rt: HostRuntime) {
+    let script = b"\nthreads 2\nt0 event e\nt1 any inf plain e\nt1 set e\nt9 set e";
+    let summary = Summary {
+        lines: 6,
+        calls: 4,
+        refused: 2,
+        granted: 0,
+        pending: 1,
+    };
+    expect_answer(&rt, script, Ok(summary));
+}
+
+/// How many lines come before the byte at this place.
 fn line_at(script: &[u8], place: usize) -> u64 {
     let mut line = 1u64;
     for byte in script.iter().take(place) {
@@ -52,221 +128,198 @@ fn line_at(script: &[u8], place: usize) -> u64 {
     line
 }
 
-/// The number of the line that a line of a transcript answers; none of the line after the last.
-fn line_answered(answer: &[u8]) -> Option<u64> {
-    for word in answer.split(|byte| *byte == b':') {
-        return number_of(word, 20);
-    }
-    None
-}
-
-/// What a transcript has of the lines before this one.
-fn before_line(transcript: &[u8], line: u64) -> &[u8] {
-    let mut end = 0usize;
-    for answer in transcript.split(|byte| *byte == b'\n') {
-        match line_answered(answer) {
-            Some(number) if number < line => {
-                end = end.saturating_add(answer.len()).saturating_add(1);
-            }
-            _ => return transcript.get(..end).unwrap_or(transcript),
-        }
-    }
-    transcript
-}
-
-/// Whether this is said of the line, and nothing more.
-fn is_said(said: &[u8], line: u64, why: &[u8]) -> bool {
-    let mut buffer = itoa::Buffer::new();
-    let rest = match said.strip_prefix(b"ntrun: line ") {
-        Some(rest) => rest.strip_prefix(buffer.format(line).as_bytes()),
-        None => None,
-    };
-    rest == Some(why)
-}
-
 /// Whether a place is looked at: each. Where growths are refused only each 50th, since each growth is then one more run, and
 /// from 49 on: in lines that ask for no memory, since a refusal shows nowhere where the writer takes no more.
 fn is_looked_at(rt: &impl Host, place: usize) -> bool {
     !is_refusing(rt) || place % 50 == 49
 }
 
-/// The number of the line that answers with the byte at this place; the last number, if it is none before.
-fn line_that_answers(transcript: &[u8], place: usize, last: u64) -> u64 {
-    for line in 1..last {
-        if before_line(transcript, line.saturating_add(1)).len() > place {
-            return line;
-        }
-    }
-    last
-}
-
-/// A reader that fails at this place has the lines before carried out, and no other.
-fn check_failed_read<R: Machine>(rt: &R, script: &[u8], place: usize, whole: &[u8]) {
-    let given = Given {
-        fails: true,
-        ..Given::all(script.get(..place).unwrap_or(script))
-    };
-    let ran = run(rt, Command::Script(given), Room::ENDLESS);
+fn check_failed_read(rt: &impl Host, script: &[u8], place: usize, whole: &[u8]) {
+    let given = Given::failing_after(script, place);
+    let found = run_over(rt, given, Room::ENDLESS);
     let line = line_at(script, place);
-    let is_told = ran.status == 1 && is_said(&ran.said, line, b": read failed\n");
-    let is_beginning = ran.written.as_slice() == before_line(whole, line);
-    expect_at(rt, is_told && is_beginning, "a failed read", place as u64);
+    let is_told = found.answer == Err(RunFault::Read { line });
+    let is_beginning = whole.starts_with(found.written.as_slice());
+    expect_at(
+        rt,
+        is_told && is_beginning,
+        "read fails after",
+        place as u64,
+    );
 }
 
-/// A writer that fails at this place of the transcript has what comes before, and the line that it answers is told.
-fn check_failed_write<R: Machine>(rt: &R, script: &[u8], room: usize, whole: &[u8]) {
-    let ran = run(rt, Command::Script(Given::all(script)), Room::of(room));
-    let line = line_that_answers(whole, room, line_at(script, script.len()));
-    let is_told = ran.status == 1 && is_said(&ran.said, line, b": write failed\n");
-    let is_beginning = whole.get(..room) == Some(ran.written.as_slice());
-    expect_at(rt, is_told && is_beginning, "a failed write", room as u64);
-}
-
-/// What is tried at each place of a script or of its transcript.
-#[derive(Clone, Copy)]
-enum Fails {
-    Read,
-    Write,
-}
-
-fn check_each_place<R: Machine>(rt: &R, script: &[u8], fails: Fails) {
-    let whole = run_whole(rt, script);
-    let whole = whole.written.as_slice();
-    let places = match fails {
-        Fails::Write => whole.len(),
-        _ => script.len().saturating_add(1),
-    };
-    for place in 0..places {
+fn check_reader_that_fails(rt: &impl Host, script: &[u8]) {
+    let whole = outcome_of(rt, script);
+    for place in 0..=script.len() {
         if is_looked_at(rt, place) {
-            match fails {
-                Fails::Read => check_failed_read(rt, script, place, whole),
-                Fails::Write => check_failed_write(rt, script, place, whole),
-            }
+            check_failed_read(rt, script, place, whole.written.as_slice());
         }
     }
 }
 
 #[test]
 fn a_reader_that_fails_ends_the_run_at_its_line(rt: HostRuntime) {
-    check_each_place(&rt, HAND_OVER, Fails::Read);
-    check_each_place(&rt, APCS, Fails::Read);
+    check_reader_that_fails(&rt, HAND_OVER);
+    check_reader_that_fails(&rt, APCS);
 }
 
-#[test]
-fn a_writer_that_fails_has_a_beginning_of_the_transcript(rt: HostRuntime) {
-    check_each_place(&rt, HAND_OVER, Fails::Write);
-    check_each_place(&rt, APCS, Fails::Write);
+fn check_failed_write(rt: &impl Host, script: &[u8], room: usize, whole: &[u8]) {
+    let found = run_over(rt, Given::all(script), Room::of(room));
+    let is_told = matches!(found.answer, Err(RunFault::Write { .. }));
+    let is_full = found.written.len() == room;
+    let is_beginning = whole.starts_with(found.written.as_slice());
+    expect_at(
+        rt,
+        is_told && is_full && is_beginning,
+        "room for",
+        room as u64,
+    );
 }
 
-const HAND_OVER_TRANSCRIPT: &[u8] = b"\
-2: handle 3
-3: pending
-4: pending
-5: ok
-5: t0 status 0x00000000
-6: ok
-6: t1 status 0x00000000
-end: pending none
-";
-
-const FAULTY: &[u8] = b"threads 1\nt0 event e\nt0 sett e\n";
-
-/// A script, the room that its writer has, and what is written and said, with the exit status.
-const ROOMS: &[(&[u8], Room, &[u8], &[u8], u8)] = &[
-    (HAND_OVER, Room::ENDLESS, HAND_OVER_TRANSCRIPT, b"", 0),
-    (HAND_OVER, Room::ONE_BY_ONE, HAND_OVER_TRANSCRIPT, b"", 0),
-    (
-        HAND_OVER,
-        Room::NEVER_FLUSHED,
-        HAND_OVER_TRANSCRIPT,
-        b"ntrun: line 7: write failed\n",
-        1,
-    ),
-    (
-        FAULTY,
-        Room::NEVER_FLUSHED,
-        b"2: handle 1\n",
-        b"ntrun: line 3: unknown word\n",
-        2,
-    ),
-    (
-        b"threads 1\nt0 next\n",
-        Room::NONE,
-        b"",
-        b"ntrun: line 2: write failed\n",
-        1,
-    ),
-];
-
-#[test]
-fn writers_of_each_kind_end_the_run(rt: HostRuntime) {
-    for (place, (script, room, written, said, status)) in ROOMS.iter().enumerate() {
-        for at_once in [1, usize::MAX] {
-            let given = Given {
-                at_once,
-                ..Given::all(script)
-            };
-            let ran = run(&rt, Command::Script(given), *room);
-            expect_at(&rt, ran.is(written, said, *status), "row", place as u64);
+fn check_writer_that_fails(rt: &impl Host, script: &[u8]) {
+    let whole = outcome_of(rt, script);
+    for room in 0..whole.written.len() {
+        if is_looked_at(rt, room) {
+            check_failed_write(rt, script, room, whole.written.as_slice());
         }
     }
 }
 
-/// The summary of a run of the script.
-fn summary_of(alloc: Global, script: &[u8]) -> Result<Summary, RunFault> {
-    let mut taken = Taken::new(alloc, Room::ENDLESS);
-    nt_script::run(
-        alloc,
-        &mut Counted::new(script),
-        &mut Counted::new(&mut taken),
-    )
+#[test]
+fn a_writer_that_fails_holds_a_beginning_of_the_transcript(rt: HostRuntime) {
+    check_writer_that_fails(&rt, HAND_OVER);
+    check_writer_that_fails(&rt, APCS);
 }
 
-#[test]
-fn a_summary_counts_the_run(rt: HostRuntime) {
-    if is_refusing(&rt) {
-        return;
-    }
-    let script =
-        b"\nthreads 2\nt0 event e\nt1 any inf plain e\nt0 set e\nt1 any inf plain e\nt1 set e\nt9 set e";
-    let summary = Summary {
-        lines: 8,
-        calls: 6,
-        refused: 2,
-        granted: 1,
-        pending: 1,
-    };
+fn check_one_by_one(rt: &impl Host, script: &[u8]) {
+    let whole = outcome_of(rt, script);
+    let found = run_over(rt, Given::one_by_one(script), Room::ONE_BY_ONE);
+    let is_same = found.written.as_slice() == whole.written.as_slice();
     expect(
-        &rt,
-        summary_of(rt.alloc(), script) == Ok(summary),
-        "the summary",
+        rt,
+        is_same && found.answer == whole.answer,
+        "bytes one by one",
     );
 }
 
-/// `threads 1`, and 65,536 events with a name of their own.
-fn creations(alloc: Global) -> Result<Vec<u8>, AllocError> {
+#[test]
+fn bytes_one_by_one_make_the_same_transcript(rt: HostRuntime) {
+    check_one_by_one(&rt, HAND_OVER);
+    check_one_by_one(&rt, APCS);
+}
+
+/// The lines that end before this place.
+fn whole_lines(script: &[u8], place: usize) -> &[u8] {
+    let mut end = 0usize;
+    for (at, byte) in script.iter().enumerate().take(place) {
+        if *byte == b'\n' {
+            end = at.saturating_add(1);
+        }
+    }
+    script.get(..end).unwrap_or(script)
+}
+
+/// What was written without the line after the last.
+fn without_end(written: &[u8]) -> &[u8] {
+    let mut lines = 0usize;
+    for line in written.split(|byte| *byte == b'\n') {
+        if line.starts_with(b"end: ") {
+            return written.get(..lines).unwrap_or(written);
+        }
+        lines = lines.saturating_add(line.len()).saturating_add(1);
+    }
+    written
+}
+
+/// Whether the line of a transcript answers the line of this number.
+fn answers_line(line: &[u8], number: u64) -> bool {
+    let mut buffer = itoa::Buffer::new();
+    match line.strip_prefix(buffer.format(number).as_bytes()) {
+        Some(rest) => rest.starts_with(b": "),
+        None => false,
+    }
+}
+
+/// Whether the rest of a cut script's transcript has nothing but answers of the line that is cut, and the line after the last.
+fn may_stand_last(rest: &[u8], line_cut: u64) -> bool {
+    for line in rest.split(|byte| *byte == b'\n') {
+        if !(line.is_empty() || line.starts_with(b"end: ") || answers_line(line, line_cut)) {
+            return false;
+        }
+    }
+    true
+}
+
+/// What an input that ends at this place writes is a beginning of the whole transcript, but for what it writes of its
+/// last line, which is cut, and for the line after that.
+fn check_cut(rt: &impl Host, script: &[u8], place: usize, whole: &[u8]) {
+    let cut = outcome_of(rt, script.get(..place).unwrap_or(script));
+    let before = outcome_of(rt, whole_lines(script, place));
+    let sure = without_end(before.written.as_slice());
+    let may_stand = match cut.written.as_slice().strip_prefix(sure) {
+        Some(rest) => may_stand_last(rest, line_at(script, place)),
+        None => false,
+    };
+    let is_beginning = whole.starts_with(sure);
+    expect_at(rt, may_stand && is_beginning, "cut at", place as u64);
+}
+
+#[test]
+fn an_input_that_is_cut_writes_a_beginning_of_the_transcript(rt: HostRuntime) {
+    let whole = outcome_of(&rt, APCS);
+    for place in 0..=APCS.len() {
+        if is_looked_at(&rt, place) {
+            check_cut(&rt, APCS, place, whole.written.as_slice());
+        }
+    }
+}
+
+#[test]
+fn a_write_of_no_bytes_is_a_failure(rt: HostRuntime) {
+    let script = b"threads 1\nt0 next\nt0 event e\n";
+    let found = run_over(&rt, Given::all(script), Room::NONE);
+    let is_told = found.answer == Err(RunFault::Write { line: 2 });
+    expect(&rt, is_told, "a write of no bytes");
+}
+
+/// `threads 1`, and so many events with a name of their own.
+fn creations(alloc: Global, count: u32) -> Result<Vec<u8>, AllocError> {
     let mut script = b"threads 1\n".to_vec(alloc)?;
-    for number in 0..65536u32 {
-        let mut buffer = itoa::Buffer::new();
+    for number in 0..count {
         script.extend_from_slice(b"t0 event e")?;
+        let mut buffer = itoa::Buffer::new();
         script.extend_from_slice(buffer.format(number).as_bytes())?;
         script.push(b'\n')?;
     }
     Ok(script)
 }
 
-/// Not made where growths are refused: it has too many.
+/// The same. Where memory is refused, a second try goes on.
+fn creations_at_last(rt: &impl Host, count: u32) -> Result<Vec<u8>, AllocError> {
+    match creations(rt.alloc(), count) {
+        Ok(script) => Ok(script),
+        Err(_) => {
+            tell_refused(rt, "the test itself");
+            creations(rt.alloc(), count)
+        }
+    }
+}
+
+/// So many creations end in these lines.
+fn check_creations(rt: &impl Host, count: u32, end: &[u8]) -> Result<(), Fail> {
+    let script = creations_at_last(rt, count)?;
+    let found = outcome_of(rt, script.as_slice());
+    let is_ended = found.written.as_slice().ends_with(end);
+    expect(rt, is_ended, "the last creations");
+    Ok(())
+}
+
+/// Where growths are refused there are fewer creations, since each growth is then one more run.
 #[test]
 fn handles_run_out_at_65536(rt: HostRuntime) -> Result<(), Fail> {
     if is_refusing(&rt) {
-        return Ok(());
+        return check_creations(&rt, 40, b"41: handle 40\nend: pending none\n");
     }
-    let ran = run_whole(&rt, creations(rt.alloc())?.as_slice());
     let end = b"65536: handle 65535\n65537: error 536870919\nend: pending none\n";
-    expect(
-        &rt,
-        ran.written.as_slice().ends_with(end),
-        "the last creations",
-    );
-    Ok(())
+    check_creations(&rt, 65536, end)
 }

@@ -4,6 +4,7 @@ use crate::refused::is_refusing;
 use nt_core::Reply;
 use nt_mail::{PackedEntry, ReadEntry};
 use nt_script::{Counted, Summary, run};
+use nt_status::Refusal;
 use nt_threads::history_of;
 use nt_written::{Unwritten, write_line};
 use std::alloc::{AllocError, Global};
@@ -21,23 +22,32 @@ fn script_of(alloc: Global, entries: &[PackedEntry]) -> Result<Vec<u8>, Unwritte
     Ok(script)
 }
 
-/// What a transcript says of this entry, which is of the line with this number. No thread of the plan takes an APC, and none is refused.
+/// What a transcript says of an answer. No thread of the plan takes an APC.
+fn answer_text(alloc: Global, answer: &Result<Reply, Refusal>) -> Result<String, AllocError> {
+    match answer {
+        Ok(Reply::Done) => format!(in alloc; "ok"),
+        Ok(Reply::Handle(handle)) => format!(in alloc; "handle {}", handle.get()),
+        Ok(Reply::Previous(count)) => format!(in alloc; "previous {count}"),
+        Ok(Reply::Status(status)) => format!(in alloc; "status 0x{:08x}", status.code()),
+        Ok(Reply::Pended) => format!(in alloc; "pending"),
+        Ok(Reply::Apc(_)) => format!(in alloc; "an APC"),
+        Err(refusal) => format!(in alloc; "error {}", refusal.number()),
+    }
+}
+
+/// What a transcript says of this entry. So many lines of the script have come, this one's included.
 fn entry_text(alloc: Global, line: u32, entry: &PackedEntry) -> Result<String, AllocError> {
     match entry.read() {
-        ReadEntry::Called { result, .. } => match result {
-            Ok(Reply::Done) => format!(in alloc; "{line}: ok\n"),
-            Ok(Reply::Handle(handle)) => format!(in alloc; "{line}: handle {}\n", handle.get()),
-            Ok(Reply::Previous(count)) => format!(in alloc; "{line}: previous {count}\n"),
-            Ok(Reply::Status(status)) => {
-                format!(in alloc; "{line}: status 0x{:08x}\n", status.code())
-            }
-            Ok(Reply::Pended) => format!(in alloc; "{line}: pending\n"),
-            _ => format!(in alloc; "{line}: another answer\n"),
-        },
+        ReadEntry::Called { result, .. } => {
+            let answer = answer_text(alloc, &result)?;
+            format!(in alloc; "{line}: {answer}\n")
+        }
+        ReadEntry::Handed { .. } => format!(in alloc; "{line}: an APC\n"),
         ReadEntry::Granted { who, status } => {
             format!(in alloc; "{line}: t{} status 0x{:08x}\n", who.get(), status.code())
         }
-        _ => format!(in alloc; "{line}: another entry\n"),
+        ReadEntry::Ticked { .. } => format!(in alloc; "{line}: a tick\n"),
+        ReadEntry::Renewed { .. } => format!(in alloc; "{line}: numbers given again\n"),
     }
 }
 

@@ -1,77 +1,139 @@
-//! The plan of two workers and one round: its threads run beside each other, and one whose call is refused makes no other but its end.
-use crate::expect::{expect, expect_at};
-use crate::refused::{is_refusing, tell_refused};
-use crate::threads::door::{Gate, MemoryDoor};
-use nt_core::Call;
+//! The plan over a dispatcher in memory.
+ghost use Rattle.std.specs.Prelude.{◌≤◌};
+
+use crate::expect::{expect, expect_at, expect_equal};
+use crate::refused::{Host, is_refusing, tell_refused};
+use crate::threads::door::MemoryDoor;
+use crate::threads::hall::{Hall, ToHall};
+use nt_core::{Act, Call};
+use nt_status::Refusal;
 use nt_threads::{Driven, drive};
-use std::alloc::{AllocError, Global};
+use std::alloc::{AllocGlobal, Global};
 use std::sync::Wait;
-use std::sync::atomic::Ordering;
 use std::test::Fail;
 use std::thread::Threads;
 
-/// Carries out the plan. The door of each thread accepts n calls before it refuses one.
-fn carry_out<'g, R: Threads + Wait + Sync>(
+/// How many threads made which calls.
+#[derive(Clone, Copy, Default, PartialEq, Eq, Debug)]
+struct Made {
+    waits: u32,
+    releases: u32,
+    unlocks: u32,
+    exits: u32,
+    others: u32,
+}
+
+impl Made {
+    fn count(&mut self, call: &Call) {
+        let place = match call {
+            Call::Wait(_) => &mut self.waits,
+            Call::Act(Act::ReleaseSemaphore { .. }) => &mut self.releases,
+            Call::Act(Act::ReleaseMutex(_)) => &mut self.unlocks,
+            Call::Exit => &mut self.exits,
+            Call::Act(_) => &mut self.others,
+        };
+        *place = place.saturating_add(1);
+    }
+}
+
+/// What was made through all doors, whether all came back in order, and whether the plan was carried out whole.
+#[derive(Clone, Copy)]
+struct Seen {
+    made: Made,
+    in_order: bool,
+    whole: bool,
+}
+
+fn seen_of(driven: &Driven<MemoryDoor<ToHall<'_>>>, threads: u16) -> Seen {
+    let mut made = Made::default();
+    let mut in_order = driven.doors.len() == usize::from(threads);
+    let mut thread = 0_u16;
+    for door in &driven.doors {
+        in_order = in_order && door.thread.get() == thread;
+        thread = thread.saturating_add(1);
+        for call in &door.made {
+            made.count(call);
+        }
+    }
+    Seen {
+        made,
+        in_order,
+        whole: driven.whole,
+    }
+}
+
+/// Carries out the plan over the hall.
+fn carry_out<R: Threads + Wait + Sync>(
     rt: &R,
     alloc: Global,
-    gate: &'g Gate,
-    accepts: [usize; 3],
-) -> Result<Driven<MemoryDoor<'g>>, AllocError> {
-    let mut doors = Vec::with_capacity(alloc, 3)?;
-    let back = Vec::with_capacity(alloc, 3)?;
-    doors.push_reserved(MemoryDoor::new(alloc, 0, accepts[0], gate)?);
-    doors.push_reserved(MemoryDoor::new(alloc, 1, accepts[1], gate)?);
-    doors.push_reserved(MemoryDoor::new(alloc, 2, accepts[2], gate)?);
-    Ok(drive(rt, alloc, doors, back, 1))
-}
-
-/// One worker is held in its first wait until the other has come to its own.
-#[test]
-fn hold_until_answered(rt: HostRuntime) -> Result<(), Fail> {
-    let gate = Gate::new();
-    match carry_out(&rt, rt.alloc(), &gate, [usize::MAX; 3]) {
-        Ok(driven) if driven.whole => {
-            let in_vain = gate.in_vain.load(Ordering::SeqCst);
-            expect(&rt, !in_vain, "a held answer");
-        }
-        Ok(_) => tell_refused(&rt, "the plan"),
-        Err(_) => tell_refused(&rt, "the test itself"),
+    hall: &Hall,
+    threads: u16,
+    rounds: u32,
+) -> Result<Seen, Refusal>
+    requires threads { threads ≤ 65 }
+    requires rounds { rounds ≤ 1000 }
+{
+    let calls = rounds as usize * 3 + 6;
+    let mut doors = Vec::with_capacity(alloc, usize::from(threads))?;
+    let back = Vec::with_capacity(alloc, usize::from(threads))?;
+    for thread in 0..threads {
+        doors.push_reserved(MemoryDoor::new(alloc, thread, calls, ToHall(hall))?);
     }
-    Ok(())
+    Ok(seen_of(&drive(rt, alloc, doors, back, rounds), threads))
 }
 
-/// The first thread makes 6 calls, the last of which ends it: three creations, a set, and a wait for both. The last worker makes 5: a wait
-/// for the event, the three calls of a round, and its end.
-const CALLS: &[(usize, usize)] = &[(0, 6), (2, 5)];
-
-/// Whether the thread of this door made n calls, and then ended.
-fn has_ended_after(driven: &Driven<MemoryDoor<'_>>, thread: usize, calls: usize) -> bool {
-    match driven.doors.get(thread) {
-        Some(door) => {
-            !driven.whole
-                && door.made.len() == calls.saturating_add(1)
-                && matches!(door.made.last(), Some(Call::Exit))
-        }
-        None => false,
+/// Carries out the plan, where memory is refused too, and looks at what was made. Every thread has ended then.
+fn check<R: Host + Threads + Wait + Sync>(rt: &R, workers: u16, rounds: u32, wanted: Made)
+    requires workers { workers ≤ 64 }
+    requires rounds { rounds ≤ 1000 }
+{
+    let threads = workers + 1;
+    let Ok(hall) = Hall::new(rt.alloc(), u32::from(threads)) else {
+        return tell_refused(rt, "an opening");
+    };
+    let Ok(seen) = carry_out(rt, rt.alloc(), &hall, threads, rounds) else {
+        return tell_refused(rt, "the test itself");
+    };
+    expect(rt, seen.in_order, "the order of the calls");
+    for thread in 0..threads {
+        let has_ended = hall.has_ended(rt, u32::from(thread));
+        expect_at(rt, has_ended, "the end of thread", u64::from(thread));
+    }
+    if seen.whole {
+        expect_equal(rt, seen.made, wanted, "the calls");
+    } else {
+        tell_refused(rt, "the plan");
     }
 }
 
+/// The calls of a whole plan: waits, releases of the semaphore and of the mutex, and ends of threads. The others are three
+/// creations and one set.
+fn whole_plan(waits: u32, releases: u32, exits: u32) -> Made {
+    Made {
+        waits,
+        releases,
+        unlocks: releases,
+        exits,
+        others: 4,
+    }
+}
+
 #[test]
-fn a_thread_ends_at_its_first_refusal(rt: HostRuntime) -> Result<(), Fail> {
+fn two_workers_make_three_rounds(rt: HostRuntime) {
+    check(&rt, 2, 3, whole_plan(9, 6, 3));
+}
+
+#[test]
+fn one_worker_makes_one_round(rt: HostRuntime) {
+    check(&rt, 1, 1, whole_plan(3, 1, 2));
+}
+
+/// A wait for so many objects takes memory of its own.
+#[test]
+fn ten_workers_make_two_rounds(rt: HostRuntime) {
+    // how many allocations so many threads make depends on their schedule, since tables grow with who waits first
     if is_refusing(&rt) {
-        return Ok(());
+        return;
     }
-    for (thread, calls) in CALLS {
-        for accepted in 0..calls.saturating_sub(1) {
-            let gate = Gate::new();
-            let mut accepts = [usize::MAX; 3];
-            if let Some(place) = accepts.get_mut(*thread) {
-                *place = accepted;
-            }
-            let driven = carry_out(&rt, rt.alloc(), &gate, accepts)?;
-            let is_right = has_ended_after(&driven, *thread, accepted);
-            expect_at(&rt, is_right, "the end after call", accepted as u64);
-        }
-    }
-    Ok(())
+    check(&rt, 10, 2, whole_plan(31, 20, 11));
 }
