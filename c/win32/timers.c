@@ -111,8 +111,9 @@ static DWORD WINAPI keep_timers(LPVOID none)
     timers.has_keeper = true;
     while (!is_second) {
         const bool is_refused = bring_all_lacking();
-        call_those_due();
+        /* (A callback below that is refused a thread calls this thread: it is not to sleep then.) */
         uint32_t calls = atomic_load_explicit(&keeper_calls, memory_order_relaxed);
+        call_those_due();
         DWORD ms = ms_to(timers.count > 0 ? timers.heap[1]->due : NEVER);
         if (is_refused && ms > RETRY_MS)
             ms = RETRY_MS;
