@@ -69,9 +69,10 @@ impl Handles {
         }
     }
 
-    /// No handle, with room for so many.
+    /// No handle; memory for this many is asked for at once. Only more than `MAX_INLINE_HANDLES` may find none.
     pub fn with_capacity(alloc: Global, count: usize) -> Result<Self, AllocError>
-        ensures { IfOk result (λ these. these ≡ []) }
+        ensures ok { IfOk result (λ these. these ≡ []) }
+        ensures err { OnErr result (MAX_INLINE_HANDLES < count) }
     {
         Ok(Handles {
             one: None,

@@ -30,6 +30,8 @@ const _: () = prove!(MAX_HANDLES == 65_536);
 
 const _: () = prove!(MAX_WAIT_OBJECTS == 64);
 
+const _: () = prove!(MAX_INLINE_HANDLES == 4);
+
 const _: () = prove!(MAX_MOMENT == 4_611_686_018_427_387_904);
 
 const _: () = prove!(INFINITE == u32::MAX);

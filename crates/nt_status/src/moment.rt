@@ -25,6 +25,10 @@ impl Model for Moment {
     ghost inverse = { λ n. record { 0 = n } };
 }
 
+const _: () = prove!(Moment::ZERO.0 == 0);
+
+const _: () = prove!(Moment::MAX.0 == 4_611_686_018_427_387_904);
+
 impl Moment {
     /// The dispatcher's moment 0.
     pub const ZERO: Moment = Moment(0);

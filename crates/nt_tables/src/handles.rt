@@ -1,7 +1,7 @@
 //! What each handle names.
-ghost use Rattle.std.specs.Prelude.{◌≡◌, ◌↔◌, true, ◌<◌, ◌≤◌, ◌+◌, ◌-◌, ◌++◌, ◌∷◌, ◌^◌, [], None, Some, length, slice_set, slice_index_or, vec_len, vec_capacity, IsSome, IfOk, OnOk};
+ghost use Rattle.std.specs.Prelude.{◌≡◌, ◌↔◌, true, ◌<◌, ◌≤◌, ◌+◌, ◌-◌, ◌++◌, ◌∷◌, ◌^◌, [], None, Some, length, slice_set, slice_index_or, vec_len, vec_capacity, IsSome, IfOk, OnOk, MatchOption};
 ghost use Rattle.std.specs.Option.{ForSome};
-ghost use Rattle.nt_tables.specs.Handles.{opened_at, count_named, own_handles, AreHandlesCounted};
+ghost use Rattle.nt_tables.specs.Handles.{opened_at, rights_of, count_named, own_handles, AreHandlesCounted};
 
 use nt_status::{Access, Handle, ObjectNumber};
 use std::alloc::{AllocError, Global};
@@ -66,18 +66,43 @@ impl Row {
             access: self.access,
         })
     }
+
+    /// The number of the object that it names, and the other number where it names nothing.
+    fn object_or(self, other: ObjectNumber) -> ObjectNumber
+        ensures { MatchOption self (result ≡ other) (λ opened. result ≡ opened.object) }
+    {
+        if self.above == 0 {
+            other
+        } else {
+            ObjectNumber::new(self.above - 1)
+        }
+    }
+
+    /// The rights to what it names, and none where it names nothing.
+    fn rights(self) -> u32
+        ensures { result ≡ rights_of self }
+    {
+        self.access.bits()
+    }
+}
+
+/// The row of a handle, and a closed one where it was never handed out.
+fn row_in(handles: &[Row], handle: Handle) -> Row
+    ensures { result ≡ opened_at handles.now handle }
+{
+    let at = handle.get() as usize;
+    if at < handles.len() {
+        handles[at]
+    } else {
+        Row::CLOSED
+    }
 }
 
 /// What a handle names; none where it is closed, or was never handed out.
 fn opened_in(handles: &[Row], handle: Handle) -> Option<Opened>
     ensures { result ≡ opened_at handles.now handle }
 {
-    let at = handle.get() as usize;
-    if at < handles.len() {
-        handles[at].get()
-    } else {
-        None
-    }
+    row_in(handles, handle).get()
 }
 
 /// One handle more names the object.
@@ -227,6 +252,21 @@ impl HandleTable {
         ensures { result ≡ opened_at self.now.opened handle }
     {
         opened_in(&self.handles, handle)
+    }
+
+    /// The number of the object that a handle names, and the other number where it names nothing. This and `rights` take fewer steps than
+    /// `get`, whose answer is packed into one word.
+    pub fn object_or(&self, handle: Handle, other: ObjectNumber) -> ObjectNumber
+        ensures { MatchOption (opened_at self.now.opened handle) (result ≡ other) (λ opened. result ≡ opened.object) }
+    {
+        row_in(&self.handles, handle).object_or(other)
+    }
+
+    /// The rights of a handle, and none where it names nothing.
+    pub fn rights(&self, handle: Handle) -> u32
+        ensures { result ≡ rights_of (opened_at self.now.opened handle) }
+    {
+        row_in(&self.handles, handle).rights()
     }
 
     /// How many handles name this object.
