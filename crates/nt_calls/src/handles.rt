@@ -33,10 +33,7 @@ pub type NamedObjects<const N: usize> = ArrayVec<ObjectNumber, N>;
 pub fn object_named(handles: &HandleTable, handle: Handle) -> ObjectNumber
     ensures { result ≡ object_named handles.now.opened handle }
 {
-    match handles.get(handle) {
-        Some(opened) => opened.object,
-        None => ObjectNumber::new(NO_OBJECT),
-    }
+    handles.object_or(handle, ObjectNumber::new(NO_OBJECT))
 }
 
 /// What the handle names: the number of its object, and one that no object has where it names none. Answers also whether the
@@ -45,11 +42,8 @@ pub fn opened(handles: &HandleTable, handle: Handle, access: u32) -> (ObjectNumb
     ensures object { result.0 ≡ object_named handles.now.opened handle }
     ensures denied { result.1 ≡ lacks access handles.now.opened handle }
 {
-    let (object, held) = match handles.get(handle) {
-        Some(opened) => (opened.object, opened.access.bits()),
-        None => (ObjectNumber::new(NO_OBJECT), 0),
-    };
-    (object, held & access != access)
+    let object = object_named(handles, handle);
+    (object, handles.rights(handle) & access != access)
 }
 
 /// Lists the numbers of the objects that the handles name, in this order. Answers whether one of the handles may not be waited for.
@@ -65,12 +59,9 @@ pub fn name_all<const N: usize>(
 {
     let mut denied = false;
     for handle in these {
-        let (object, held) = match handles.get(*handle) {
-            Some(opened) => (opened.object, opened.access.bits()),
-            None => (ObjectNumber::new(NO_OBJECT), 0),
-        };
+        let (object, lacks) = opened(handles, *handle, SYNCHRONIZE);
         named.push(object);
-        denied = denied || held & SYNCHRONIZE != SYNCHRONIZE;
+        denied = denied || lacks;
     }
     denied
 }

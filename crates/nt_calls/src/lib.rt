@@ -35,5 +35,5 @@ pub use objects::{count_living, is_set_by};
 pub use refusals::close_refusal;
 pub use swaps::{is_swap_denied, swap_refusal};
 pub use timing::{deadline_after, due_moment, late_status, routine_for};
-pub use trying::{is_ready, try_wait};
+pub use trying::{is_ready, try_again, try_wait};
 pub use wait_refusal::objects_refusal;

@@ -1,5 +1,5 @@
 //! How a wait is tried on the objects, and what it takes of them.
-ghost use Rattle.std.specs.Prelude.{◌≡◌, ◌≤◌, ◌<◌, IsTrue, IfNone, None, true, false, length, nat_eq};
+ghost use Rattle.std.specs.Prelude.{◌≡◌, ◌≤◌, ◌<◌, IsTrue, IfNone, IfSome, None, true, false, length, slice_index, nat_eq};
 ghost use Rattle.std.specs.List.{position, list_all, list_any, IsDistinct};
 ghost use Rattle.nt_objects.specs.declared.object.Object.{Object};
 ghost use Rattle.nt_objects.specs.Object.{has_room, is_abandoned, TellsAbandoned};
@@ -152,4 +152,52 @@ pub fn try_wait(
         _ if all => try_all(objects, thread, numbers),
         _ => try_any(objects, thread, numbers),
     }
+}
+
+/// A place among these numbers, from this one on, whose object is not signaled for the thread.
+fn unready_from(
+    objects: &[Object],
+    thread: ThreadId,
+    numbers: &[ObjectNumber],
+    from: usize,
+) -> Option<usize>
+    ensures { IfSome result (λ place. (place < length numbers.now)
+        × (is_ready objects.now thread (slice_index numbers.now place) ≡ false)) }
+{
+    let mut place = from;
+    while place < numbers.len() {
+        if !is_ready(objects, thread, numbers[place]) {
+            return Some(place);
+        }
+        place += 1;
+    }
+    None
+}
+
+/// The same as `try_wait`. A wait for all is tried first at the place where the thread's last one was seen to fail: any place will do.
+pub fn try_again(
+    objects: &mut ObjectTable,
+    failed: &mut Vec<u8>,
+    thread: ThreadId,
+    numbers: &[ObjectNumber],
+    all: bool,
+) -> Option<Status>
+    requires few { length numbers.now ≤ MAX_WAIT_OBJECTS }
+    requires apart { IsDistinct nat_eq numbers.now }
+    requires room { CanTake objects.old.items thread numbers.now }
+    requires known { thread < length objects.old.owned }
+    ensures tried { IsTried objects.old.items objects.new.items thread (wait_on numbers.now all) result }
+    ensures none { IfNone result (objects.new ≡ objects.old) }
+    ensures threads { length objects.new.owned ≡ length objects.old.owned }
+{
+    if all {
+        if let Some(from) = failed.get_mut(thread.get() as usize) {
+            if let Some(place) = unready_from(objects.as_slice(), thread, numbers, *from as usize) {
+                *from = place as u8;
+                return None;
+            }
+            *from = 0;
+        }
+    }
+    try_wait(objects, thread, numbers, all)
 }

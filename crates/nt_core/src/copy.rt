@@ -28,6 +28,7 @@ impl Machine {
         let handles = self.handles.copy()?;
         let handing = Vec::from_slice(alloc, &self.handing)?;
         let standings = Vec::from_slice(alloc, &self.standings)?;
+        let failed = Vec::from_slice(alloc, &self.failed)?;
         let grants = copy_grants(alloc, self.threads as usize, &self.grants)?;
         let objects = self.objects.copy()?;
         let alerted = self.alerted.copy()?;
@@ -40,6 +41,7 @@ impl Machine {
             apcs,
             handing,
             standings,
+            failed,
             moment: self.moment,
             grants,
             alarms,

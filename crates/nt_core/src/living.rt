@@ -15,6 +15,15 @@ use nt_objects::Object;
 use nt_status::{Handle, ObjectNumber};
 use nt_tables::HandleTable;
 
+/// Marks an object that no handle names. It stands apart: mostly a handle still names what a wait named.
+#[inline(never)]
+fn mark_left(leaving: &mut Marks, object: ObjectNumber)
+    requires { object < length leaving.old }
+    ensures { leaving.new ≡ slice_set leaving.old object true }
+{
+    leaving.set(object.get() as usize);
+}
+
 /// Marks those of the objects of a wait, which ends, that no handle names.
 pub(crate) fn let_go(handles: &HandleTable, leaving: &mut Marks, ended: &[ObjectNumber])
     requires { (o : ℕ) → Contains ended.now o → o < length leaving.old }
@@ -22,7 +31,7 @@ pub(crate) fn let_go(handles: &HandleTable, leaving: &mut Marks, ended: &[Object
 {
     for object in ended {
         if handles.count(*object) == 0 {
-            leaving.set(object.get() as usize);
+            mark_left(leaving, *object);
         }
     }
 }

@@ -48,6 +48,8 @@ pub struct Machine {
     pub(crate) handing: Vec<bool>,
     /// For each thread whether it may call.
     pub(crate) standings: Vec<Standing>,
+    /// For each thread where its wait for all failed last, which is looked at first. No answer depends on it.
+    pub(crate) failed: Vec<u8>,
     pub(crate) moment: Moment,
     pub(crate) grants: Vec<Grant>,
     pub(crate) alarms: Alarms,
@@ -92,6 +94,7 @@ impl Machine {
         let count = threads as usize;
         let handing = none_handing(alloc, count)?;
         let standings = all_free(alloc, count)?;
+        let failed = vec![in alloc; 0_u8; count]?;
         let grants = Vec::with_capacity(alloc, count)?;
         let apcs = ApcQueues::new(alloc, count)?;
         let handles = HandleTable::new(alloc, count, Object::new_thread().full_access())?;
@@ -111,6 +114,7 @@ impl Machine {
             apcs,
             handing,
             standings,
+            failed,
             moment: Moment::ZERO,
             grants,
             alarms,

@@ -1,5 +1,6 @@
 //! How a wait comes to pend: for one object, as most do, or for any number.
 ghost use Rattle.std.specs.Prelude.{◌∷◌, ◌==◌, [], length, not, IsTrue, Ok, OnErr};
+ghost use Rattle.nt_status.specs.declared.limits.TheConstants.{INFINITE};
 ghost use Rattle.nt_calls.specs.Serving.{wait_on};
 ghost use Rattle.nt_calls.specs.declared.call.WaitCall.{WaitCall};
 ghost use Rattle.nt_core.specs.Lawful.{IsMachineSound};
@@ -8,15 +9,31 @@ ghost use Rattle.nt_core.specs.Accepts.{HasPended, CanBegin};
 use crate::machine::Machine;
 use crate::standing::Standing;
 use nt_calls::{WaitMode, deadline_after};
-use nt_status::{ObjectNumber, Refusal, ThreadId};
+use nt_status::{INFINITE, ObjectNumber, Refusal, ThreadId};
 use nt_waits::About;
 
 impl Machine {
-    /// The thread's wait for this object pends from now on. There is room for it, so it takes no memory. It stands apart, so that the compiler
-    /// knows that there is one. The parts of the mode come one by one: a value that is passed whole is packed into one word, and each use
-    /// takes its part out again.
+    /// The thread's wait for this object, which has no deadline, pends from now on. There is room for it, so it takes no memory. It stands
+    /// apart, so that the compiler knows that there is one.
     #[inline(never)]
-    pub(crate) fn pend_one(
+    fn pend_for_good(&mut self, thread: ThreadId, object: ObjectNumber, all: bool, alertable: bool)
+        requires can { CanBegin self.old thread (wait_on (object ∷ []) all) }
+        requires sound { IsMachineSound self.old }
+        ensures { HasPended self.old self.new thread
+            (WaitCall.Objects all (record { ms = INFINITE; alertable = alertable }) (object ∷ [])) (Ok tt) }
+    {
+        let for_good = About {
+            alertable,
+            deadline: None,
+        };
+        self.waits.begin_one(thread, object, all, for_good);
+        self.standings[thread.get() as usize] = Standing::Waiting;
+    }
+
+    /// The same for a wait that may have a deadline. The parts of the mode come one by one: a value that is passed whole is packed into one
+    /// word, and each use takes its part out again.
+    #[inline(never)]
+    fn pend_until(
         &mut self,
         thread: ThreadId,
         object: ObjectNumber,
@@ -35,6 +52,28 @@ impl Machine {
         };
         self.waits.begin_one(thread, object, all, about);
         self.standings[thread.get() as usize] = Standing::Waiting;
+    }
+
+    /// The thread's wait for this object pends from now on. Most waits have no deadline.
+    #[inline(always)]
+    pub(crate) fn pend_one(
+        &mut self,
+        thread: ThreadId,
+        object: ObjectNumber,
+        all: bool,
+        ms: u32,
+        alertable: bool,
+    )
+        requires can { CanBegin self.old thread (wait_on (object ∷ []) all) }
+        requires sound { IsMachineSound self.old }
+        ensures { HasPended self.old self.new thread
+            (WaitCall.Objects all (record { ms = ms; alertable = alertable }) (object ∷ [])) (Ok tt) }
+    {
+        if ms == INFINITE {
+            self.pend_for_good(thread, object, all, alertable);
+        } else {
+            self.pend_until(thread, object, all, ms, alertable);
+        }
     }
 
     /// The same for any number of objects. Where memory is refused nothing changes.

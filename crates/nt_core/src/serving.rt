@@ -14,7 +14,7 @@ ghost use Rattle.nt_core.specs.Lawful.{IsMachineSound};
 use crate::living::let_go;
 use crate::machine::Machine;
 use crate::standing::Standing;
-use nt_calls::{Grant, is_ready, try_wait};
+use nt_calls::{Grant, is_ready, try_again, try_wait};
 use nt_status::{ObjectNumber, ThreadId};
 
 impl Machine {
@@ -30,7 +30,13 @@ impl Machine {
             unreachable!()
         };
         let objects = wait.objects.as_slice();
-        let Some(status) = try_wait(&mut self.objects, thread, objects, wait.all) else {
+        let Some(status) = try_again(
+            &mut self.objects,
+            &mut self.failed,
+            thread,
+            objects,
+            wait.all,
+        ) else {
             return;
         };
         let_go(&self.handles, &mut self.leaving, objects);

@@ -1,15 +1,10 @@
 -- What a queue shows of a wait block: its number, and the thread that waits.
-use Rattle.std.specs.Prelude.{◌≡◌, ℕ, ◌==◌, if◌then◌else◌, List, [], ◌∷◌, ◌⊎◌, Option, Some, None, refl}
-use Rattle.std.specs.Coded.{Coded, code_by, coded×, coded_ℕ}
+use Rattle.std.specs.Prelude.{◌≡◌, ℕ, ◌==◌, if◌then◌else◌, List, [], ◌∷◌, ◌⊎◌, Option, Some, None}
 
 -- a block's number and its thread
 pub record Link : Type 0 where
   pub number : ℕ
   pub thread : ℕ
-
--- a link is stored as the pair of its fields
-abbrev pub link_code : Coded Link
-link_code = code_by (ℕ × ℕ) (coded× coded_ℕ coded_ℕ) (λ l. (l.number, l.thread)) (λ p. record { number = p.0; thread = p.1 }) (λ _. refl)
 
 -- one of these links has this number
 abbrev pub HasNumber : List Link → ℕ → Type 0

@@ -43,6 +43,18 @@ pub fn clear_alarm(alarms: &mut Alarms, t: ThreadId)
     ensures others { (u : ℕ) → u ≢ t → alarm_at alarms.new u ≡ alarm_at alarms.old u }
     ensures places { length alarms.new ≡ length alarms.old }
 {
+    if alarms.earliest().is_some() {
+        clear_alarm_slow(alarms, t);
+    }
+}
+
+/// The same where some thread has an alarm.
+#[inline(never)]
+fn clear_alarm_slow(alarms: &mut Alarms, t: ThreadId)
+    ensures here { alarm_at alarms.new t ≡ None }
+    ensures others { (u : ℕ) → u ≢ t → alarm_at alarms.new u ≡ alarm_at alarms.old u }
+    ensures places { length alarms.new ≡ length alarms.old }
+{
     let place = t.get() as usize;
     if alarms.get(place).is_some() {
         alarms.clear(place);

@@ -177,6 +177,7 @@ impl Slot {
     }
 
     /// The thread's wait for this object stands here from now on, with a block at the end of its queue. It takes no memory.
+    #[inline(always)]
     pub fn fill_one(
         &mut self,
         queues: &mut Queues,

@@ -188,6 +188,7 @@ impl WaitTable {
     }
 
     /// Begins the thread's wait for this object alone, as `begin` does. There is room for it, so it takes no memory, and nothing is refused.
+    #[inline(always)]
     pub fn begin_one(&mut self, t: ThreadId, object: ObjectNumber, all: bool, about: About)
         requires free { wait_of self.old t ≡ None }
         requires place { t < self.old.room.threads }

@@ -8,15 +8,14 @@ use Rattle.nt_core.proofs.LettingGo.{let_go_named, let_go_marked, dropped_member
 use Rattle.nt_core.proofs.living.let_go.Goals as goal
 use Rattle.nt_core.proofs.living.let_go.Goals.{then-count-eq0, else-count-eq0}
 
-pub set-requires : goal.set-requires
-set-requires c =
+pub mark_left-requires : goal.mark_left-requires
+mark_left-requires c =
     let i = c.loop-object.object-index in
     let h = c.object-item.result in
     let split : drop i c.args.ended.now ≡ h ∷ drop (i + 1) c.args.ended.now = at_drop_more (λ xs. xs) c.args.ended.now i h c.loop-object-test.true ∙ ap (λ (x : ℕ). x ∷ drop (i + 1) c.args.ended.now) (sym c.object-item.is) in
     let known = c.requires h (dropped_member i c.args.ended.now h (drop (i + 1) c.args.ended.now) split) in
     let count = c.loop-object.invariant.count in
-    let place = c.get.ensures in
-    omega (arith, known, count, place)
+    omega (arith, known, count)
 
 pub loop-object-preserved : goal.loop-object-preserved
 loop-object-preserved c =
@@ -31,7 +30,7 @@ loop-object-preserved c =
     elim c.if-count-eq0.branch [
       | then-count-eq0 w ↦
           let known = c.requires h (dropped_member i ended h left split) in
-          let is : c.if-count-eq0.leaving ≡ set c.loop-object.leaving h true = w.leaving-is ∙ (w.set.ensures ∙ ap (λ (k : ℕ). set c.loop-object.leaving k true) w.get.ensures) in
+          let is : c.if-count-eq0.leaving ≡ set c.loop-object.leaving h true = w.leaving-is ∙ w.mark_left.ensures in
           subst (λ (marks : List Bool). LetsGoBut left opened ended old marks) (sym is) (let_go_marked opened ended old c.loop-object.leaving h left far known)
       | else-count-eq0 w ↦
           let test = w.if-count-eq0.false in

@@ -13,46 +13,46 @@ use Rattle.nt_core.proofs.LettingGo.{let_go_agree}
 use Rattle.nt_core.proofs.Visiting.{visit_granted, visit_unmarked, visit_passed, can_take, counted, room_for}
 use Rattle.nt_core.proofs.machine.Machine.visit_any.Goals as goal
 
-pub try_wait-requires-clause-few : goal.try_wait-requires-clause-few
-try_wait-requires-clause-few c =
+pub try_again-requires-clause-few : goal.try_again-requires-clause-few
+try_again-requires-clause-few c =
     let d = dispatcher_of c.self.inside.threads c.self.inside.handles.opened c.self.inside.objects.items c.self.inside.objects.owned c.self.inside.waits c.self.inside.apcs c.self.inside.handing.items c.self.inside.standings.items c.self.inside.moment c.self.inside.grants.items c.self.inside.alarms c.self.inside.leaving c.self.inside.changed c.self.inside.alerted in
     let sound : IsMachineSound d = subst IsMachineSound (sym c.self.view_is) c.requires.sound in
     let own = sound.waits c.args.thread c.in-Some.wait.now (sym c.in-Some.ensures.value) in
     rw c.as_slice-objects.ensures own.few
 
-pub try_wait-requires-clause-apart : goal.try_wait-requires-clause-apart
-try_wait-requires-clause-apart c =
+pub try_again-requires-clause-apart : goal.try_again-requires-clause-apart
+try_again-requires-clause-apart c =
     let d = dispatcher_of c.self.inside.threads c.self.inside.handles.opened c.self.inside.objects.items c.self.inside.objects.owned c.self.inside.waits c.self.inside.apcs c.self.inside.handing.items c.self.inside.standings.items c.self.inside.moment c.self.inside.grants.items c.self.inside.alarms c.self.inside.leaving c.self.inside.changed c.self.inside.alerted in
     let sound : IsMachineSound d = subst IsMachineSound (sym c.self.view_is) c.requires.sound in
     let own = sound.waits c.args.thread c.in-Some.wait.now (sym c.in-Some.ensures.value) in
     rw c.as_slice-objects.ensures own.apart
 
-pub try_wait-requires-clause-room : goal.try_wait-requires-clause-room
-try_wait-requires-clause-room c =
+pub try_again-requires-clause-room : goal.try_again-requires-clause-room
+try_again-requires-clause-room c =
     let d = dispatcher_of c.self.inside.threads c.self.inside.handles.opened c.self.inside.objects.items c.self.inside.objects.owned c.self.inside.waits c.self.inside.apcs c.self.inside.handing.items c.self.inside.standings.items c.self.inside.moment c.self.inside.grants.items c.self.inside.alarms c.self.inside.leaving c.self.inside.changed c.self.inside.alerted in
     let sound : IsMachineSound d = subst IsMachineSound (sym c.self.view_is) c.requires.sound in
     let own = sound.waits c.args.thread c.in-Some.wait.now (sym c.in-Some.ensures.value) in
     let can : CanTake c.self.inside.objects.items c.args.thread c.in-Some.wait.now.objects = can_take c.self.inside.objects.items c.args.thread d.threads c.in-Some.wait.now sound.objects own in
     rw c.as_slice-objects.ensures can
 
-pub try_wait-requires-clause-known : goal.try_wait-requires-clause-known
-try_wait-requires-clause-known c =
+pub try_again-requires-clause-known : goal.try_again-requires-clause-known
+try_again-requires-clause-known c =
     let d = dispatcher_of c.self.inside.threads c.self.inside.handles.opened c.self.inside.objects.items c.self.inside.objects.owned c.self.inside.waits c.self.inside.apcs c.self.inside.handing.items c.self.inside.standings.items c.self.inside.moment c.self.inside.grants.items c.self.inside.alarms c.self.inside.leaving c.self.inside.changed c.self.inside.alerted in
     let sound : IsMachineSound d = subst IsMachineSound (sym c.self.view_is) c.requires.sound in
     let own = sound.waits c.args.thread c.in-Some.wait.now (sym c.in-Some.ensures.value) in
     rw c.self.invariant.2 own.known
 
-pub returns-in_default-try_wait : goal.returns-in_default-try_wait
-returns-in_default-try_wait c =
+pub returns-in_default-try_again : goal.returns-in_default-try_again
+returns-in_default-try_again c =
     let d = dispatcher_of c.self.inside.threads c.self.inside.handles.opened c.self.inside.objects.items c.self.inside.objects.owned c.self.inside.waits c.self.inside.apcs c.self.inside.handing.items c.self.inside.standings.items c.self.inside.moment c.self.inside.grants.items c.self.inside.alarms c.self.inside.leaving c.self.inside.changed c.self.inside.alerted in
     let sound : IsMachineSound d = subst IsMachineSound (sym c.self.view_is) c.requires.sound in
     let small : d.table.looked + 1 < 2 ^ 64 = subst (λ (x : Dispatcher). x.table.looked + 1 < 2 ^ 64) (sym c.self.view_is) c.requires.countable in
-    let objects = c.try_wait.new.objects.items in
-    let owned = c.try_wait.new.objects.owned in
+    let objects = c.try_again.new.objects.items in
+    let owned = c.try_again.new.objects.owned in
     let named = c.as_slice-objects.ensures in
-    let tried : IsTried c.self.inside.objects.items c.try_wait.new.objects.items c.args.thread c.in-Some.wait.now None =
-    (subst (λ (hs : List ℕ). IsTried c.self.inside.objects.items c.try_wait.new.objects.items c.args.thread (wait_on hs c.in-Some.wait.now.all) None) named c.in_default-try_wait.ensures.tried) in
-    let result = visit_passed d c.args.thread c.in-Some.wait.now objects owned c.get.follows.lender-at-none sound small c.in-Some.ensures.value tried.0 tried.1 (ap (λ (o : Objects). o.owned) c.in_default-try_wait.ensures.none) c.get.follows.holds-at-none in
+    let tried : IsTried c.self.inside.objects.items c.try_again.new.objects.items c.args.thread c.in-Some.wait.now None =
+    (subst (λ (hs : List ℕ). IsTried c.self.inside.objects.items c.try_again.new.objects.items c.args.thread (wait_on hs c.in-Some.wait.now.all) None) named c.in_default-try_again.ensures.tried) in
+    let result = visit_passed d c.args.thread c.in-Some.wait.now objects owned c.get.follows.lender-at-none sound small c.in-Some.ensures.value tried.0 tried.1 (ap (λ (o : Objects). o.owned) c.in_default-try_again.ensures.none) c.get.follows.holds-at-none in
     record {
       visited = subst (λ (x : Dispatcher). IsVisited x (record d { objects = objects; owned = owned; table = c.get.follows.lender-at-none }) c.args.thread) c.self.view_is result.0;
       sound = result.1;
@@ -103,20 +103,20 @@ returns c =
     let sound : IsMachineSound d = subst IsMachineSound (sym c.self.view_is) c.requires.sound in
     let small : d.table.looked + 1 < 2 ^ 64 = subst (λ (x : Dispatcher). x.table.looked + 1 < 2 ^ 64) (sym c.self.view_is) c.requires.countable in
     let wait = c.in-Some.wait.now in
-    let objects = c.try_wait.new.objects.items in
-    let owned = c.try_wait.new.objects.owned in
+    let objects = c.try_again.new.objects.items in
+    let owned = c.try_again.new.objects.owned in
     let table = c.end_in_place.new.self in
     let grants = c.push_reserved.new.self.items in
     let leaving = c.let_go.new.leaving in
     let left = c.get.follows.holds-at-none in
-    let tried : IsTried c.self.inside.objects.items objects c.args.thread wait (Some c.in-Some-try_wait.status) =
-    subst (λ (hs : List ℕ). IsTried c.self.inside.objects.items objects c.args.thread (wait_on hs wait.all) (Some c.in-Some-try_wait.status)) c.as_slice-objects.ensures c.in-Some-try_wait.ensures.tried in
+    let tried : IsTried c.self.inside.objects.items objects c.args.thread wait (Some c.in-Some-try_again.status) =
+    subst (λ (hs : List ℕ). IsTried c.self.inside.objects.items objects c.args.thread (wait_on hs wait.all) (Some c.in-Some-try_again.status)) c.as_slice-objects.ensures c.in-Some-try_again.ensures.tried in
     let queues : (h : ℕ) → queue_of table h ≡ others c.args.thread (queue_of d.table h) = λ h. c.end_in_place.ensures.ended.queues h ∙ ap (λ (v : Waits). others c.args.thread (queue_of v h)) left in
     let unmarked : MarksAgreeBut wait.objects (record d { objects = objects; owned = owned; table = table; handing = set d.handing c.args.thread false; standings = set d.standings c.args.thread Free; grants = grants }) =
-    visit_unmarked d c.args.thread c.in-Some-try_wait.status wait objects owned table grants sound c.in-Some.ensures.value tried queues in
+    visit_unmarked d c.args.thread c.in-Some-try_again.status wait objects owned table grants sound c.in-Some.ensures.value tried queues in
     let lets : LetsGoBut [] d.handles wait.objects d.leaving leaving = subst (λ (hs : List ℕ). LetsGoBut [] d.handles hs d.leaving leaving) c.as_slice-objects.ensures c.let_go.ensures in
     let new : Dispatcher = record d { objects = objects; owned = owned; table = table; handing = set d.handing c.args.thread false; standings = set d.standings c.args.thread Free; grants = grants; leaving = leaving } in
-    let result : IsVisited d new c.args.thread × IsMachineSound new = visit_granted d c.args.thread c.in-Some-try_wait.status wait objects owned table grants leaving sound c.in-Some.ensures.value
+    let result : IsVisited d new c.args.thread × IsMachineSound new = visit_granted d c.args.thread c.in-Some-try_again.status wait objects owned table grants leaving sound c.in-Some.ensures.value
     tried
     (c.end_in_place.ensures.ended.pending ∙ ap (λ (v : Waits). map.remove v.pending c.args.thread) left)
     queues
