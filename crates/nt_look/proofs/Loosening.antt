@@ -11,7 +11,7 @@ use Rattle.nt_calls.specs.State.{State, object_at}
 use Rattle.nt_calls.specs.Living.{is_opened}
 use Rattle.nt_core.specs.Dispatcher.{Dispatcher, state}
 use Rattle.nt_look.specs.Hangs.{holds, held_at, marked, unmarked, IsTied, IsKnot}
-use Rattle.nt_look.specs.Deciding.{IsUntied, HasAllKnots}
+use Rattle.nt_look.specs.Deciding.{IsUntied}
 use Rattle.nt_look.proofs.Parts.{both_of, together, any_kept, all_kept}
 
 -- ---- fewer marks
@@ -36,6 +36,11 @@ marked_below (b ∷ marks) zero is = omega arith
 marked_below (b ∷ marks) (suc t) is = let below = marked_below marks t is in omega (arith, below)
 
 -- ---- the search for a thread that is not tied
+
+-- each thread of any knot has a mark
+pub record HasAllKnots (over : List Bool) (s : State) (knot : List Bool) : Type 0 where
+  pub count : length knot ≡ s.threads
+  pub all : (other : ℕ → Bool) → ((t : ℕ) → other t ≡ true → t < s.threads) → IsKnot (unmarked over) other s → (t : ℕ) → other t ≡ true → marked knot t ≡ true
 
 -- no thread below this number is untied
 abbrev pub TiedBelow : Dispatcher → List Bool → List Bool → ℕ → Type 0

@@ -5,7 +5,7 @@ use Rattle.std.specs.FinMap.{get}
 use Rattle.nt_waits.specs.declared.wait.Wait.{Wait}
 use Rattle.nt_calls.specs.State.{State, pends}
 use Rattle.nt_calls.specs.Living.{runs}
-use Rattle.nt_look.specs.Hangs.{ends_in_time, fits_in_time, is_called_in_time, IsKnot, IsTied, marked, unmarked}
+use Rattle.nt_look.specs.Hangs.{ends_in_time, fits_in_time, is_called_in_time, IsTied, marked, unmarked}
 
 -- a deadline, armed timers or their APC can end the wait of thread t
 abbrev pub ends_by_time : List Object → ℕ → Wait → Bool
@@ -22,8 +22,3 @@ pub record IsUntied (over knot : List Bool) (s : State) (t : ℕ) : Type 0 where
   pub calls : unmarked over t ≡ true
   pub known : t < length knot
   pub free : IsTied (marked knot) s t → ⊥
-
--- each thread of any knot has a mark
-pub record HasAllKnots (over : List Bool) (s : State) (knot : List Bool) : Type 0 where
-  pub count : length knot ≡ s.threads
-  pub all : (other : ℕ → Bool) → ((t : ℕ) → other t ≡ true → t < s.threads) → IsKnot (unmarked over) other s → (t : ℕ) → other t ≡ true → marked knot t ≡ true

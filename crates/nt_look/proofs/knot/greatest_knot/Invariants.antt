@@ -1,6 +1,5 @@
 use Rattle.nt_core.specs.Dispatcher.{state}
-use Rattle.nt_look.specs.Deciding.{HasAllKnots}
-use Rattle.nt_look.proofs.Loosening.{left_marked}
+use Rattle.nt_look.proofs.Loosening.{HasAllKnots, left_marked}
 use Rattle.nt_look.proofs.knot.greatest_knot.Given as goal
 
 abbrev pub decreases-loop-thread : goal.decreases-loop-thread
