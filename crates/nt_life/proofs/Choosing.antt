@@ -1,5 +1,5 @@
 -- Which numbers a creation or a duplicate takes.
-use Rattle.std.proofs.Common.{◌≡◌, ◌≤◌, ◌<◌, ℕ, ◌-◌, Bool, true, false, not, ◌&&◌, List, [], ◌∷◌, ◌++◌, length, length-append, zero, suc, get_or, refl, sym, ap, ◌∙◌, subst, arith, Some, None, inl, inr, ◌⊎◌}
+use Rattle.std.proofs.Common.{◌≡◌, ◌≤◌, ◌<◌, ℕ, Bool, true, false, not, ◌&&◌, List, [], ◌∷◌, ◌++◌, length, length-append, zero, suc, get_or, refl, sym, ap, ◌∙◌, subst, arith, None, ◌⊎◌}
 use Rattle.std.specs.Prelude.{nat_lt, nat_le, MatchBool, if◌then◌else◌}
 use Rattle.std.specs.declared.result.Result.{Result}
 use Rattle.std.specs.declared.result.Result.TheVariants.{Ok, Err}
@@ -22,12 +22,12 @@ use Rattle.nt_calls.specs.Refusals.{first_of_causes, refusal}
 use Rattle.nt_calls.specs.Steps.{Called}
 use Rattle.nt_core.specs.Dispatcher.{Dispatcher, state}
 use Rattle.nt_core.specs.Lawful.{IsLawful}
-use Rattle.nt_core.specs.Renewals.{is_closed, is_vacant, AddsVacant, CreatesAgain, DuplicatesAgain}
+use Rattle.nt_core.specs.Renewals.{is_closed, is_vacant, AddsVacant, DuplicatesAgain}
 use Rattle.nt_core.specs.SetAside.{is_movable}
 use Rattle.nt_core.proofs.Accepting.{free_caller}
 use Rattle.nt_core.proofs.Changing.{object_at-append, reading_created}
-use Rattle.nt_core.proofs.Remaining.{both, some_handle}
-use Rattle.nt_life.specs.Lasting.{Spares, IsSpare, times, can_give_last, is_creation, last_closed, last_unnamed, CreatesElse, LastsCreation, LastsDuplicate, LastsAct, LastsCall, NoHandle, NoObject, FindsNone}
+use Rattle.nt_core.proofs.Remaining.{some_handle}
+use Rattle.nt_life.specs.Lasting.{Spares, IsSpare, times, is_creation, last_closed, LastsCreation, LastsDuplicate, LastsAct, LastsCall, NoHandle, NoObject, FindsNone}
 use Rattle.nt_life.proofs.Calls.{none_vacant}
 use Rattle.nt_life.proofs.Limits.{wants_number, IsFull}
 use Rattle.nt_life.proofs.Spares.{spare_added, few_unnamed}
@@ -43,47 +43,6 @@ pub duplicates_spare : (old : State) (spare : Spares) (who source access : ℕ) 
 duplicates_spare old spare who source access result grants new some again =
     let test : nat_lt 0 (length spare.closed) ≡ true = grind (arith, nat_tests, some) in
     subst (λ (b : Bool). MatchBool b (DuplicatesAgain old who source access (last_closed spare) result grants new) (Called old who (Call.Act (Act.Duplicate source access)) result grants new)) (sym test) again
-
--- ---- a creation
-
-pub creates_else : (old : State) (spare : Spares) (who : ℕ) (act : Act) (result : Result Reply Refusal) (grants : List Grant) (new : State) → can_give_last old spare ≡ false → CreatesElse old spare who act result grants new → LastsCreation old spare who act result grants new
-creates_else old spare who act result grants new unready creates =
-    subst (λ (b : Bool). MatchBool b (CreatesAgain old who act (last_unnamed spare) (last_closed spare) result grants new) (CreatesElse old spare who act result grants new)) (sym unready) creates
-
-pub creates_last : (old : State) (spare : Spares) (who : ℕ) (act : Act) (result : Result Reply Refusal) (grants : List Grant) (new : State) → can_give_last old spare ≡ true → CreatesAgain old who act (last_unnamed spare) (last_closed spare) result grants new → LastsCreation old spare who act result grants new
-creates_last old spare who act result grants new ready creates =
-    subst (λ (b : Bool). MatchBool b (CreatesAgain old who act (last_unnamed spare) (last_closed spare) result grants new) (CreatesElse old spare who act result grants new)) (sym ready) creates
-
--- no handle is closed
-pub unready_closed : (s : State) (spare : Spares) → length spare.closed ≡ 0 → can_give_last s spare ≡ false
-unready_closed s spare none =
-    let test : nat_lt 0 (length spare.closed) ≡ false = grind (arith, nat_tests, none) in
-    ap (λ b. b && (nat_lt 0 (length spare.unnamed) && is_vacant s (last_unnamed spare))) test
-
-none_not_some : (n : ℕ) → None ≡ Some n → ⊥
-none_not_some n e = (cc)
-
-some_same : (a b : ℕ) → Some a ≡ Some b → a ≡ b
-some_same a b e = (cc)
-
--- the number that was freed last is not free
-pub unready_object : (s : State) (spare : Spares) (n : ℕ) → ((nat_lt 0 (length spare.unnamed) && is_vacant s (last_unnamed spare)) ≡ true → None ≡ Some n) → can_give_last s spare ≡ false
-unready_object s spare n last = go (can_give_last s spare) refl
-  where
-    go : (b : Bool) → can_give_last s spare ≡ b → can_give_last s spare ≡ false
-    go false e = e
-    go true e = absurd (none_not_some n (last (both (nat_lt 0 (length spare.closed)) (nat_lt 0 (length spare.unnamed) && is_vacant s (last_unnamed spare)) e).1))
-
--- the place that was chosen is the last one, if that is free
-pub creates_at : (old : State) (spare : Spares) (who : ℕ) (act : Act) (place : ℕ) (result : Result Reply Refusal) (grants : List Grant) (new : State) → 0 < length spare.closed → is_vacant old (get_or spare.unnamed place 0) ≡ true → ((nat_lt 0 (length spare.unnamed) && is_vacant old (last_unnamed spare)) ≡ true → Some place ≡ Some (length spare.unnamed - 1)) → CreatesAgain old who act (get_or spare.unnamed place 0) (last_closed spare) result grants new → LastsCreation old spare who act result grants new
-creates_at old spare who act place result grants new some vacant last created = go (can_give_last old spare) refl
-  where
-    go : (b : Bool) → can_give_last old spare ≡ b → LastsCreation old spare who act result grants new
-    go true e =
-        let parts = both (nat_lt 0 (length spare.closed)) (nat_lt 0 (length spare.unnamed) && is_vacant old (last_unnamed spare)) e in
-        let same = some_same place (length spare.unnamed - 1) (last parts.1) in
-        creates_last old spare who act result grants new e (subst (λ (p : ℕ). CreatesAgain old who act (get_or spare.unnamed p 0) (last_closed spare) result grants new) same created)
-    go false e = creates_else old spare who act result grants new e (inr (inl (some, (get_or spare.unnamed place 0, vacant, created))))
 
 -- ---- any act
 

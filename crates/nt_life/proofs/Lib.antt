@@ -5,6 +5,7 @@ mod Limits
 mod Calls
 mod Taken
 mod Choosing
+pub mod Turning
 mod Pacing
 mod Looking
 mod Stacking

@@ -14,10 +14,11 @@ use Rattle.nt_calls.specs.State.{State}
 use Rattle.nt_calls.specs.Steps.{Called}
 use Rattle.nt_core.specs.Renewals.{AddsVacant, CreatesAgain, DuplicatesAgain}
 use Rattle.nt_laws.specs.Laws.{call_closes}
-use Rattle.nt_life.specs.Lasting.{Spares, MaySpare, MakesCall, FindsNone, FindsNoneFor, IsUnchanged, CreatesBeside, CreatesElse, LastsCreation, LastsDuplicate, LastsAct, IsStacked, MayStack, gives, is_numbered, can_give_last, last_closed, last_unnamed, LastsCall}
+use Rattle.nt_life.specs.Lasting.{Spares, MaySpare, MakesCall, FindsNone, FindsNoneFor, IsUnchanged, CreatesBeside, CreatesByTurn, CreatesElse, LastsCreation, LastsDuplicate, LastsAct, IsStacked, MayStack, MayTurn, gives, is_numbered, can_give_last, turn_after, last_closed, last_unnamed, LastsCall}
 use Rattle.nt_life.proofs.Limits.{IsFull, refused_full, wants_number}
 use Rattle.nt_life.proofs.Calls.{call_spare}
 use Rattle.nt_life.proofs.Spares.{spare_same}
+use Rattle.nt_life.proofs.Turning.{turn_else}
 
 -- ---- a call that takes no number and gives none back
 
@@ -73,12 +74,21 @@ own_stacks (Call.Act (Act.Close handle)) result closed none = absurd (false≢tr
 own_stacks (Call.Act act) result closed none = inl refl
 own_stacks call result closed none = inl refl
 
+own_turns : (s : State) (spare : Spares) (call : Call) → is_numbered call ≡ false → spare.turn ≡ turn_after s spare call
+own_turns s spare (Call.Act (Act.CreateEvent flags)) none = absurd (false≢true (sym none))
+own_turns s spare (Call.Act (Act.CreateSemaphore initial maximum)) none = absurd (false≢true (sym none))
+own_turns s spare (Call.Act (Act.CreateMutex flags)) none = absurd (false≢true (sym none))
+own_turns s spare (Call.Act (Act.CreateTimer flags)) none = absurd (false≢true (sym none))
+own_turns s spare (Call.Act act) none = refl
+own_turns s spare call none = refl
+
 -- what holds of a call that is the machine's own
 pub record IsOwn (old : State) (spare : Option Spares) (who : ℕ) (call : Call) (result : Result Reply Refusal) (grants : List Grant) (new : State) : Type 0 where
   pub makes : MakesCall old spare who call result grants new
   pub limit : result ≡ Err HandleLimit → FindsNoneFor old spare call
   pub taken : IfSome spare (λ it. FindsNone old call → OnOk result ⊥)
   pub stacked : MayStack call result spare spare
+  pub turned : MayTurn old call spare spare
   pub unchanged : IsUnchanged old result grants new
   pub spare_is : MaySpare new spare
 
@@ -88,6 +98,7 @@ own_call old None who call result grants new none enough threads is called = rec
   limit = λ limit. tt;
   taken = tt;
   stacked = (refl, refl);
+  turned = (refl, refl);
   unchanged = unchanged_own old who call result grants new called;
   spare_is = tt;
 }
@@ -96,6 +107,7 @@ own_call old (Some spare) who call result grants new none enough threads is call
   limit = unnumbered_limit old (Some spare) who call result grants new none called;
   taken = unnumbered_taken old (Some spare) call result none;
   stacked = own_stacks call result spare.closed none;
+  turned = own_turns old spare call none;
   unchanged = unchanged_own old who call result grants new called;
   spare_is = call_spare old who call result grants new spare enough (unnumbered_closes call none) threads called is;
 }
@@ -133,9 +145,9 @@ unchanged_else old spare who act result grants new (inr (inr more)) = unchanged_
 unchanged_creation : (old : State) (spare : Spares) (who : ℕ) (act : Act) (result : Result Reply Refusal) (grants : List Grant) (new : State) → LastsCreation old spare who act result grants new → IsUnchanged old result grants new
 unchanged_creation old spare who act result grants new lasts = go (can_give_last old spare) lasts
   where
-    go : (b : Bool) → MatchBool b (CreatesAgain old who act (last_unnamed spare) (last_closed spare) result grants new) (CreatesElse old spare who act result grants new) → IsUnchanged old result grants new
+    go : (b : Bool) → MatchBool b (CreatesAgain old who act (last_unnamed spare) (last_closed spare) result grants new) (CreatesByTurn old spare who act result grants new) → IsUnchanged old result grants new
     go true again = unchanged_again old who act (last_unnamed spare) (last_closed spare) result grants new again
-    go false other = unchanged_else old spare who act result grants new other
+    go false other = unchanged_else old spare who act result grants new (turn_else old spare who act result grants new other)
 
 unchanged_duplicate : (old : State) (spare : Spares) (who source access : ℕ) (result : Result Reply Refusal) (grants : List Grant) (new : State) → LastsDuplicate old spare who source access result grants new → IsUnchanged old result grants new
 unchanged_duplicate old spare who source access (Ok reply) grants new lasts = tt

@@ -143,7 +143,7 @@ none_closed_first zero access h =
     ap (λ b. b && is_none (opened_at [] h)) none
 none_closed_first (suc n) access h = closed_more (own_handles n access) (record { object = n; access = access }) h ∙ none_closed_first n access h
 
-pub opening_spare : (n : ℕ) → IsSpare (opening n) (record { closed = []; unnamed = [] })
+pub opening_spare : (n : ℕ) → IsSpare (opening n) (record { closed = []; unnamed = []; turn = 0 })
 opening_spare n = record {
   handles = λ h. sym (ap weight (none_closed_first n (full_access (Thread false)) h));
   objects = λ o. sym (ap weight (none_unnamed o (nat_le n o) refl));

@@ -28,8 +28,9 @@ use Rattle.nt_core.specs.Lawful.{HandlesAgree}
 use Rattle.nt_core.specs.Renewals.{is_closed, is_vacant, AddsVacant, CreatesAgain, DuplicatesAgain}
 use Rattle.nt_core.proofs.Accepting.{next_causes}
 use Rattle.nt_laws.proofs.CallKinds.{call_causes_none}
-use Rattle.nt_life.specs.Lasting.{Spares, is_creation, can_give_last, last_closed, last_unnamed, CreatesBeside, CreatesElse, LastsCreation, LastsDuplicate, LastsCall, NoHandle, NoObject, FindsNone}
+use Rattle.nt_life.specs.Lasting.{Spares, is_creation, can_give_last, last_closed, last_unnamed, CreatesBeside, CreatesByTurn, CreatesElse, LastsCreation, LastsDuplicate, LastsCall, NoHandle, NoObject, FindsNone}
 use Rattle.nt_life.proofs.Renewed.{created_free, duplicated_free}
+use Rattle.nt_life.proofs.Turning.{turn_else}
 
 not_both : (b : Bool) → b ≡ true → b ≡ false → ⊥
 not_both b is other = false≢true (sym other ∙ is)
@@ -104,9 +105,9 @@ else_taken old spare who act reply grants new agree creates (inr (inr more)) non
 pub creation_taken : (old : State) (spare : Spares) (who : ℕ) (act : Act) (reply : Reply) (grants : List Grant) (new : State) → HandlesAgree (length old.objects) old.handles → is_creation act ≡ true → LastsCreation old spare who act (Ok reply) grants new → NoHandle old ⊎ NoObject old → ⊥
 creation_taken old spare who act reply grants new agree creates lasts none = go (can_give_last old spare) lasts
   where
-    go : (b : Bool) → MatchBool b (CreatesAgain old who act (last_unnamed spare) (last_closed spare) (Ok reply) grants new) (CreatesElse old spare who act (Ok reply) grants new) → ⊥
+    go : (b : Bool) → MatchBool b (CreatesAgain old who act (last_unnamed spare) (last_closed spare) (Ok reply) grants new) (CreatesByTurn old spare who act (Ok reply) grants new) → ⊥
     go true is = again_taken old who act (last_unnamed spare) (last_closed spare) reply grants new is none
-    go false is = else_taken old spare who act reply grants new agree creates is none
+    go false is = else_taken old spare who act reply grants new agree creates (turn_else old spare who act (Ok reply) grants new is) none
 
 -- ---- duplicates
 

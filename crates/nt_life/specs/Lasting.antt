@@ -1,5 +1,5 @@
 -- A dispatcher that lasts: the numbers of closed handles and of objects that are gone are given again, the last that was freed first.
-use Rattle.std.specs.Prelude.{◌≡◌, ◌≤◌, ◌<◌, ◌+◌, ◌-◌, ◌⊎◌, ℕ, Bool, true, false, not, ◌&&◌, ◌==◌, nat_le, nat_lt, is_none, IfSome, List, [], ◌∷◌, ◌++◌, length, slice_index_or, if◌then◌else◌, MatchBool, OnOk, OnErr}
+use Rattle.std.specs.Prelude.{◌≡◌, ◌≤◌, ◌<◌, ◌+◌, ◌-◌, ◌%◌, ◌⊎◌, ℕ, Bool, true, false, not, ◌&&◌, ◌==◌, nat_le, nat_lt, is_none, IfSome, List, [], ◌∷◌, ◌++◌, length, slice_index_or, if◌then◌else◌, MatchBool, OnOk, OnErr}
 use Rattle.std.specs.FinMap as map
 use Rattle.std.specs.declared.option.Option.{Option}
 use Rattle.std.specs.declared.option.Option.TheVariants.{None, Some}
@@ -27,14 +27,16 @@ use Rattle.nt_life.specs.declared.begun.Begun.{Begun}
 
 -- ---- the numbers that are spare
 
--- the numbers of closed handles, and those of objects that no handle names; of each the one that was freed last stands last
+-- the numbers of closed handles, and those of objects that no handle names; of each the one that was freed last stands last; and whose turn
+-- it is if the last object is still awaited
 pub record Spares : Type 0 where
   pub closed : List ℕ
   pub unnamed : List ℕ
+  pub turn : ℕ
 
 -- no number is spare
 abbrev pub no_spares : Spares
-no_spares = record { closed = []; unnamed = [] }
+no_spares = record { closed = []; unnamed = []; turn = 0 }
 
 -- a dispatcher, and the numbers that are spare in it; none if it gives no number again
 pub record WithSpare : Type 0 where
@@ -62,6 +64,31 @@ last_closed spare = slice_index_or spare.closed (length spare.closed - 1) 0
 -- the number of the object of which the last handle was closed last
 abbrev pub last_unnamed : Spares → ℕ
 last_unnamed spare = slice_index_or spare.unnamed (length spare.unnamed - 1) 0
+
+-- the place of the object whose turn it is: the turn goes round
+abbrev pub turn_place : Spares → ℕ
+turn_place spare = spare.turn % length spare.unnamed
+
+-- the number of the object whose turn it is
+abbrev pub turn_unnamed : Spares → ℕ
+turn_unnamed spare = slice_index_or spare.unnamed (turn_place spare) 0
+
+-- no handle names some object, and the one that was freed last is gone
+abbrev pub is_last_vacant : State → Spares → Bool
+is_last_vacant s spare = nat_lt 0 (length spare.unnamed) && is_vacant s (last_unnamed spare)
+
+-- no handle names some object, and the one whose turn it is is gone
+abbrev pub is_turn_vacant : State → Spares → Bool
+is_turn_vacant s spare = nat_lt 0 (length spare.unnamed) && is_vacant s (turn_unnamed spare)
+
+-- the place that a creation finds: that of the object freed last, if it is gone; else that of the one whose turn it is, if that is gone
+abbrev pub IsFound : State → Spares → Option ℕ → Type 0
+IsFound s spare found =
+    MatchBool (is_last_vacant s spare) (found ≡ Some (length spare.unnamed - 1)) (MatchBool (is_turn_vacant s spare) (found ≡ Some (turn_place spare)) (found ≡ None))
+
+-- whose turn it is after a look: the next one's, unless the object freed last was gone, or there is none
+abbrev pub next_turn : State → Spares → ℕ
+next_turn s spare = if nat_lt 0 (length spare.unnamed) && not (is_vacant s (last_unnamed spare)) then turn_place spare + 1 else spare.turn
 
 -- a lawful dispatcher, and its spare numbers
 pub record HasSpare (core : Dispatcher) (numbers : Spares) : Type 0 where
@@ -100,7 +127,11 @@ is_creation (Act.Close h) = false
 
 -- a handle is closed, and the object whose number was freed last is gone
 abbrev pub can_give_last : State → Spares → Bool
-can_give_last s spare = nat_lt 0 (length spare.closed) && (nat_lt 0 (length spare.unnamed) && is_vacant s (last_unnamed spare))
+can_give_last s spare = nat_lt 0 (length spare.closed) && is_last_vacant s spare
+
+-- a handle is closed, and the object whose turn it is is gone
+abbrev pub can_give_turn : State → Spares → Bool
+can_give_turn s spare = nat_lt 0 (length spare.closed) && is_turn_vacant s spare
 
 -- the object gets the number of one that is gone, and its handle that of the handle that was closed last
 abbrev pub CreatesSpare : State → Spares → ℕ → Act → Result Reply Refusal → List Grant → State → Type 0
@@ -134,12 +165,19 @@ CreatesElse old spare who act result grants new =
     Called old who (Call.Act act) result grants new
     ⊎ CreatesAtLimit old spare who act result grants new
 
+-- the object freed last is not gone: the creation takes the number of the object whose turn it is, if that is gone
+abbrev pub CreatesByTurn : State → Spares → ℕ → Act → Result Reply Refusal → List Grant → State → Type 0
+CreatesByTurn old spare who act result grants new =
+    MatchBool (can_give_turn old spare)
+    (CreatesAgain old who act (turn_unnamed spare) (last_closed spare) result grants new)
+    (CreatesElse old spare who act result grants new)
+
 -- a creation takes the numbers that were freed last, if both can be given
 abbrev pub LastsCreation : State → Spares → ℕ → Act → Result Reply Refusal → List Grant → State → Type 0
 LastsCreation old spare who act result grants new =
     MatchBool (can_give_last old spare)
     (CreatesAgain old who act (last_unnamed spare) (last_closed spare) result grants new)
-    (CreatesElse old spare who act result grants new)
+    (CreatesByTurn old spare who act result grants new)
 
 -- a duplicate takes the number of the handle that was closed last; where none is closed, it is the machine's own
 abbrev pub LastsDuplicate : State → Spares → ℕ → ℕ → ℕ → Result Reply Refusal → List Grant → State → Type 0
@@ -216,14 +254,14 @@ abbrev pub MayBeginThis : State → Option Spares → ℕ → Option ℕ → Lis
 MayBeginThis old None t begun grants new = (begun ≡ None) × (new ≡ old)
 MayBeginThis old (Some spare) t begun grants new = BeginsThis old spare t begun grants new
 
--- a thread begins with this handle in some place, of one that has ended; or nothing changes, since there is no such place
+-- a thread begins with this handle in the first place of one that has ended; or nothing changes, since there is no such place
 abbrev pub BeginsSomewhere : State → ℕ → Option ℕ → List Grant → State → Type 0
-BeginsSomewhere old h (Some t) grants new = BeginsAgain old t h (Ok (Reply.Handle h)) grants new
+BeginsSomewhere old h (Some t) grants new = ((u : ℕ) → u < t → is_left old u ≡ false) × BeginsAgain old t h (Ok (Reply.Handle h)) grants new
 BeginsSomewhere old h None grants new = ((t : ℕ) → is_left old t ≡ false) × (new ≡ old)
 
--- a thread begins so in some place; or nothing changes, since there is no such place, or no handle was closed
+-- a thread begins so in the first place that is free; or nothing changes, since there is no such place, or no handle was closed
 abbrev pub BeginsSpare : State → Spares → Option Begun → List Grant → State → Type 0
-BeginsSpare old spare (Some begun) grants new = BeginsThis old spare begun.thread (Some begun.handle) grants new
+BeginsSpare old spare (Some begun) grants new = ((t : ℕ) → t < begun.thread → is_left old t ≡ false) × BeginsThis old spare begun.thread (Some begun.handle) grants new
 BeginsSpare old spare None grants new = ((length spare.closed ≡ 0) ⊎ ((t : ℕ) → is_left old t ≡ false)) × (new ≡ old)
 
 -- the same; none begins if no number is given again
@@ -297,6 +335,16 @@ abbrev pub MayStack : Call → Result Reply Refusal → Option Spares → Option
 MayStack call result (Some old) (Some new) = IsStacked call result old.closed new.closed
 MayStack call result old new = (old ≡ None) × (new ≡ None)
 
+-- whose turn it is after a call: a creation moves it on where a handle is closed, but the object freed last is not gone
+abbrev pub turn_after : State → Spares → Call → ℕ
+turn_after s spare (Call.Act act) = if is_creation act && nat_lt 0 (length spare.closed) then next_turn s spare else spare.turn
+turn_after s spare call = spare.turn
+
+-- the same; if no number is given again, it is nobody's turn
+abbrev pub MayTurn : State → Call → Option Spares → Option Spares → Type 0
+MayTurn s call (Some old) (Some new) = new.turn ≡ turn_after s old call
+MayTurn s call old new = (old ≡ None) × (new ≡ None)
+
 -- the last number is taken, or none; if no number is given again, there is none before or after
 abbrev pub MayPop : Option Spares → Option Spares → Type 0
 MayPop (Some old) (Some new) = Pops old.closed new.closed
@@ -328,12 +376,13 @@ pub record KeepsLimits (old : Dispatcher) (spare : Option Spares) (who : ℕ) (c
   pub taken : IfSome spare (λ numbers. FindsNone (state old) call → OnOk result ⊥)
   pub looks : LooksAt old who call result new
 
--- a call is made as above, within these limits; it takes or gives the numbers of closed handles in order, keeps the pace, changes nothing if
--- it is refused, and all stays lawful
+-- a call is made as above, within these limits; it takes or gives the numbers of closed handles in order, and the turn goes round; it keeps
+-- the pace, changes nothing if it is refused, and all stays lawful
 pub record Lasts (old : Dispatcher) (spare : Option Spares) (who : ℕ) (call : Call) (result : Result Reply Refusal) (new : Dispatcher) (after : Option Spares) : Type 0 where
   pub makes : MakesCall (state old) spare who call result new.grants (state new)
   pub limits : KeepsLimits old spare who call result new
   pub stacked : MayStack call result spare after
+  pub turned : MayTurn (state old) call spare after
   pub pace : KeepsPace (state old) who call result new.grants (state new)
   pub unchanged : IsUnchanged (state old) result new.grants (state new)
   pub lawful : IsLawful new

@@ -7,7 +7,7 @@ ghost use Rattle.nt_calls.specs.Steps.{Called};
 ghost use Rattle.nt_core.specs.Dispatcher.{state};
 ghost use Rattle.nt_core.specs.Lawful.{IsLawful};
 ghost use Rattle.nt_core.specs.Renewals.{CreatesAgain};
-ghost use Rattle.nt_life.specs.Lasting.{IsSpare, MaySpare, LooksAt, gives, is_numbered, NoHandle, NoObject, CreatesElse, LastsCreation, LastsDuplicate, KeepsPace, is_creation, is_unnamed, HasSpare, IsClosedLast, LacksOnlyNumbers, CreatesAtLimit, LeavesSpare, TakesNumbers, Lasts};
+ghost use Rattle.nt_life.specs.Lasting.{IsSpare, MaySpare, LooksAt, gives, is_numbered, NoHandle, NoObject, CreatesElse, LastsCreation, LastsDuplicate, KeepsPace, is_creation, is_unnamed, HasSpare, IsClosedLast, LacksOnlyNumbers, CreatesAtLimit, LeavesSpare, TakesNumbers, turn_after, Lasts};
 ghost use Rattle.nt_life.specs.declared.renewal.Renewal.TheVariants.{Create};
 ghost use Rattle.nt_life.specs.Renewals.{Tells};
 
@@ -41,6 +41,7 @@ fn create_at(
         result core.new.grants (state core.new) }
     ensures untested { core.new.table.looked ≡ 0 }
     ensures leaves { LeavesSpare spare.old core.new spare.new }
+    ensures turn { spare.new.turn ≡ spare.old.turn }
 {
     let object = spare.object(place);
     *told = Some(Renewal::Create {
@@ -71,6 +72,7 @@ fn create_more(
     ensures limit { result ≡ Err HandleLimit → NoHandle (state core.old) ⊎ NoObject (state core.old) }
     ensures untested { core.new.table.looked ≡ 0 }
     ensures leaves { LeavesSpare spare.old core.new spare.new }
+    ensures turn { spare.new.turn ≡ spare.old.turn }
 {
     if let Some(place) = spare.any_vacant(core) {
         return create_at(core, spare, who, act, handle, place, told);
@@ -109,6 +111,7 @@ fn create_new(
     ensures created { CreatesElse (state core.old) spare.old who act.now result core.new.grants (state core.new) }
     ensures limit { result ≡ Err HandleLimit → NoHandle (state core.old) ⊎ NoObject (state core.old) }
     ensures takes { TakesNumbers core.old spare.old who (Call.Act act.now) result core.new spare.new }
+    ensures turn { spare.new.turn ≡ spare.old.turn }
 {
     let answer = core.call(who, call);
     if !is_limit(&answer) {
@@ -137,6 +140,7 @@ fn create(
     ensures created { LastsCreation (state core.old) spare.old who act.now result core.new.grants (state core.new) }
     ensures limit { result ≡ Err HandleLimit → NoHandle (state core.old) ⊎ NoObject (state core.old) }
     ensures takes { TakesNumbers core.old spare.old who (Call.Act act.now) result core.new spare.new }
+    ensures turned { spare.new.turn ≡ turn_after (state core.old) spare.old (Call.Act act.now) }
 {
     let Some(handle) = spare.handle() else {
         return create_new(core, spare, who, act, call, told);
@@ -167,6 +171,7 @@ fn duplicate(
     ensures limit { result ≡ Err HandleLimit → NoHandle (state core.old) }
     ensures takes { TakesNumbers core.old spare.old who (Call.Act (Act.Duplicate source access)) result
         core.new spare.new }
+    ensures turn { spare.new.turn ≡ spare.old.turn }
 {
     let Some(handle) = spare.handle() else {
         return core.call(who, call);
@@ -206,6 +211,7 @@ fn close(
     ensures has { HasSpare core.new spare.new }
     ensures stacked { OnOk result (spare.new.closed ≡ spare.old.closed ++ handle ∷ []) }
     ensures kept { OnErr result (spare.new.closed ≡ spare.old.closed) }
+    ensures turn { spare.new.turn ≡ spare.old.turn }
 {
     let Some(object) = core.object_number(handle) else {
         return core.call(who, call);

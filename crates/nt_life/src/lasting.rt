@@ -11,7 +11,7 @@ ghost use Rattle.nt_calls.specs.declared.call.Call.{Call};
 ghost use Rattle.nt_calls.specs.declared.call.WaitCall.{WaitCall};
 ghost use Rattle.nt_core.specs.Dispatcher.{state};
 ghost use Rattle.nt_core.specs.Lawful.{IsLawful};
-ghost use Rattle.nt_life.specs.Lasting.{MaySpare, MayBegin, KeepsPace, LooksAt, KeepsClosed, GivesFromNow, gives, MayBeginThis, MayPop, MaySetAside, no_spares, MakesCall, KeepsLimits, MayStack, IsUnchanged};
+ghost use Rattle.nt_life.specs.Lasting.{MaySpare, MayBegin, KeepsPace, LooksAt, KeepsClosed, GivesFromNow, gives, MayBeginThis, MayPop, MaySetAside, no_spares, MakesCall, KeepsLimits, MayStack, MayTurn, IsUnchanged};
 ghost use Rattle.nt_life.specs.Renewals.{Tells};
 
 use crate::beginning::{begin_this_with, begin_with};
@@ -110,6 +110,9 @@ impl Lasting {
     /// freed last, if there are any, and are refused with HandleLimit only if 65,536 handles are open, or no object number is free.
     /// If each number is given once, every call is the machine's own.
     ///
+    /// If an object that no handle names is still awaited, and was the last of which a handle was closed, the number of another is tried:
+    /// each in turn, one for each creation.
+    ///
     /// The pending waits that it ends are in `core().grants()`. It takes no memory unless `Core::call` does. A refused call changes
     /// nothing.
     #[inline(always)]
@@ -118,6 +121,7 @@ impl Lasting {
             result self.new.core.grants (state self.new.core) }
         ensures limits { KeepsLimits self.old.core self.old.spare who call.now result self.new.core }
         ensures stacked { MayStack call.now result self.old.spare self.new.spare }
+        ensures turned { MayTurn (state self.old.core) call.now self.old.spare self.new.spare }
         ensures pace { KeepsPace (state self.old.core) who call.now result self.new.core.grants (state self.new.core) }
         ensures unchanged { IsUnchanged (state self.old.core) result self.new.core.grants (state self.new.core) }
         ensures lawful { IsLawful self.new.core }
@@ -142,6 +146,7 @@ impl Lasting {
             result self.new.core.grants (state self.new.core) }
         ensures limits { KeepsLimits self.old.core self.old.spare who call.now result self.new.core }
         ensures stacked { MayStack call.now result self.old.spare self.new.spare }
+        ensures turned { MayTurn (state self.old.core) call.now self.old.spare self.new.spare }
         ensures pace { KeepsPace (state self.old.core) who call.now result self.new.core.grants (state self.new.core) }
         ensures unchanged { IsUnchanged (state self.old.core) result self.new.core.grants (state self.new.core) }
         ensures lawful { IsLawful self.new.core }
@@ -190,7 +195,7 @@ impl Lasting {
         self.core.tick(m)
     }
 
-    /// A thread begins in the place of one that has ended and whose object is gone, with the number of the handle that was closed last.
+    /// A thread begins in the first place of one that has ended and whose object is gone, with the number of the handle that was closed last.
     /// It takes no memory.
     ///
     /// None if there is no such place, or no handle is closed, or each number is given once. An event that is made and closed at once

@@ -1,11 +1,11 @@
 //! The numbers that may be given again.
-ghost use Rattle.std.specs.Prelude.{◌≡◌, ◌<◌, ◌≤◌, ◌-◌, ◌++◌, ◌∷◌, ℕ, [], true, false, ◌&&◌, nat_lt, Some, length, slice_index_or, IfOk, IfSome, IfNone, if◌then◌else◌};
+ghost use Rattle.std.specs.Prelude.{◌≡◌, ◌<◌, ◌≤◌, ◌-◌, ◌++◌, ◌∷◌, ℕ, [], true, false, length, slice_index_or, IfOk, IfSome, IfNone, if◌then◌else◌};
 ghost use Rattle.std.specs.List.{swap_remove};
 ghost use Rattle.nt_status.specs.declared.limits.TheConstants.{MAX_HANDLES};
 ghost use Rattle.nt_core.specs.Dispatcher.{state};
 ghost use Rattle.nt_core.specs.Lawful.{IsLawful};
 ghost use Rattle.nt_core.specs.Renewals.{is_vacant};
-ghost use Rattle.nt_life.specs.Lasting.{IsSpare, last_closed, last_unnamed};
+ghost use Rattle.nt_life.specs.Lasting.{IsSpare, IsFound, last_closed, next_turn};
 
 use crate::listing::{closed_in, unnamed_in};
 use crate::stack::Stack;
@@ -19,7 +19,7 @@ use std::marker::Model;
 pub(crate) struct Spare {
     closed: Stack,
     unnamed: Stack,
-    /// Which of the unnamed ones is looked at if the last one is not free.
+    /// Which of the unnamed ones is looked at if the last one is not free: each in turn.
     turn: usize,
 }
 
@@ -28,7 +28,7 @@ impl Model for Spare {
 
     ghost Value = { Spares };
 
-    ghost view = { λ s. record { closed = s.closed; unnamed = s.unnamed } };
+    ghost view = { λ s. record { closed = s.closed; unnamed = s.unnamed; turn = s.turn } };
 }
 
 /// The place of the first of these objects whose number may be given again.
@@ -51,6 +51,7 @@ impl Spare {
     pub fn new(alloc: Global) -> Result<Self, AllocError>
         ensures closed { IfOk result (λ spare. spare.closed ≡ []) }
         ensures unnamed { IfOk result (λ spare. spare.unnamed ≡ []) }
+        ensures turn { IfOk result (λ spare. spare.turn ≡ 0) }
     {
         Ok(Spare {
             closed: Stack::new(alloc)?,
@@ -59,7 +60,7 @@ impl Spare {
         })
     }
 
-    /// The numbers that may be given again in this dispatcher. The greatest come first, since it is not known which were freed last.
+    /// The numbers that may be given again in this dispatcher. Which were freed last is not known.
     pub fn of(alloc: Global, core: &Core) -> Result<Self, AllocError>
         requires lawful { IsLawful core.now }
         ensures { IfOk result (λ spare. IsSpare (state core.now) spare) }
@@ -94,14 +95,14 @@ impl Spare {
         Some(Handle::new(closed[closed.len() - 1]))
     }
 
-    /// The place of an object whose number may be given again: the last one, or, if that is not free, another that is looked at
-    /// in its place.
+    /// The place of an object whose number may be given again: the last one, or, if that is not free, the one whose turn it is.
     pub fn vacant(&mut self, core: &Core) -> Option<usize>
         ensures found { IfSome result (λ place. (place < length self.old.unnamed)
             × (is_vacant (state core.now) (slice_index_or self.old.unnamed place 0) ≡ true)) }
-        ensures last { (nat_lt 0 (length self.old.unnamed) && is_vacant (state core.now) (last_unnamed self.old)) ≡ true
-            → result ≡ Some (length self.old.unnamed - 1) }
-        ensures same { self.new ≡ self.old }
+        ensures which { IsFound (state core.now) self.old result }
+        ensures closed { self.new.closed ≡ self.old.closed }
+        ensures unnamed { self.new.unnamed ≡ self.old.unnamed }
+        ensures turn { self.new.turn ≡ next_turn (state core.now) self.old }
     {
         let unnamed = self.unnamed.as_slice();
         if unnamed.is_empty() {
@@ -144,6 +145,7 @@ impl Spare {
         requires { 0 < length self.old.closed }
         ensures closed { self.old.closed ≡ self.new.closed ++ last_closed self.old ∷ [] }
         ensures unnamed { self.new.unnamed ≡ self.old.unnamed }
+        ensures turn { self.new.turn ≡ self.old.turn }
     {
         self.closed.pop();
     }
@@ -153,6 +155,7 @@ impl Spare {
         requires { place < length self.old.unnamed }
         ensures closed { self.new.closed ≡ self.old.closed }
         ensures unnamed { self.new.unnamed ≡ swap_remove self.old.unnamed place 0 }
+        ensures turn { self.new.turn ≡ self.old.turn }
     {
         self.unnamed.take(place);
     }
@@ -163,6 +166,7 @@ impl Spare {
         requires objects { length self.old.unnamed < MAX_HANDLES }
         ensures closed { self.new.closed ≡ self.old.closed ++ handle ∷ [] }
         ensures unnamed { self.new.unnamed ≡ (if unnamed then self.old.unnamed ++ object ∷ [] else self.old.unnamed) }
+        ensures turn { self.new.turn ≡ self.old.turn }
     {
         self.closed.push(handle.get());
         if unnamed {
@@ -176,6 +180,7 @@ impl Spare {
         ensures place { result ≡ length self.old.unnamed }
         ensures closed { self.new.closed ≡ self.old.closed }
         ensures unnamed { self.new.unnamed ≡ self.old.unnamed ++ object ∷ [] }
+        ensures turn { self.new.turn ≡ self.old.turn }
     {
         let place = self.unnamed.as_slice().len();
         self.unnamed.push(object.get());

@@ -22,8 +22,9 @@ use Rattle.nt_core.specs.Renewals.{AddsVacant, CreatesAgain, DuplicatesAgain, Re
 use Rattle.nt_core.specs.SetAside.{is_movable, set_aside}
 use Rattle.nt_core.proofs.Changing.{reading_created, reading_set}
 use Rattle.nt_core.proofs.SettingAside.{MayMove, may_move, read_aside}
-use Rattle.nt_life.specs.Lasting.{Spares, AsideBeside, FindsNumber, MaySetAside, MovesAside, CreatesBeside, CreatesElse, LastsAct, LastsCreation, LastsDuplicate, MakesCall, MayBegin, can_give_last, last_closed, last_unnamed}
+use Rattle.nt_life.specs.Lasting.{Spares, AsideBeside, FindsNumber, MaySetAside, MovesAside, CreatesBeside, CreatesByTurn, CreatesElse, LastsAct, LastsCreation, LastsDuplicate, MakesCall, MayBegin, can_give_last, last_closed, last_unnamed}
 use Rattle.nt_life.specs.declared.begun.Begun.{Begun}
+use Rattle.nt_life.proofs.Turning.{turn_else}
 use Rattle.nt_sleepers.specs.Sleepers.{TimeIsKept, time_out_of}
 use Rattle.nt_sleepers.proofs.Staying.{StayedOrBegan, call_stayed, same_stayed}
 
@@ -77,8 +78,8 @@ pub kept_begun : (old new : State) (spare : Option Spares) (begun : Option Begun
 kept_begun old new None begun gs alarms watchers is kept = subst (λ (s : State). TimeIsKept s alarms watchers) (sym is.1) kept
 kept_begun old new (Some spare) None gs alarms watchers is kept = subst (λ (s : State). TimeIsKept s alarms watchers) (sym is.1) kept
 kept_begun old new (Some spare) (Some begun) gs alarms watchers is kept =
-    subst (λ (s : State). TimeIsKept s alarms watchers) (sym is.2.3)
-    (keeps_time old (begun_again old begun.thread begun.handle) alarms watchers refl refl (λ u. begun_awaits old begun.thread begun.handle u (left_gone old begun.thread begun.handle is.2.0)) kept)
+    subst (λ (s : State). TimeIsKept s alarms watchers) (sym is.1.2.3)
+    (keeps_time old (begun_again old begun.thread begun.handle) alarms watchers refl refl (λ u. begun_awaits old begun.thread begun.handle u (left_gone old begun.thread begun.handle is.1.2.0)) kept)
 
 -- ---- an object that is set aside
 
@@ -129,9 +130,9 @@ else_stayed old spare who act result gs new (inr (inr more)) = beside_stayed mor
 creation_stayed : (old : State) (spare : Spares) (who : ℕ) (act : Act) (result : Result Reply Refusal) (gs : List Grant) (new : State) → LastsCreation old spare who act result gs new → StayedOrBegan old who (pended result) new
 creation_stayed old spare who act result gs new lasts = go (can_give_last old spare) lasts
   where
-    go : (b : Bool) → MatchBool b (CreatesAgain old who act (last_unnamed spare) (last_closed spare) result gs new) (CreatesElse old spare who act result gs new) → StayedOrBegan old who (pended result) new
+    go : (b : Bool) → MatchBool b (CreatesAgain old who act (last_unnamed spare) (last_closed spare) result gs new) (CreatesByTurn old spare who act result gs new) → StayedOrBegan old who (pended result) new
     go true again = created_stayed old old who act (last_unnamed spare) (last_closed spare) result gs new refl again
-    go false other = else_stayed old spare who act result gs new other
+    go false other = else_stayed old spare who act result gs new (turn_else old spare who act result gs new other)
 
 duplicate_stayed : (old : State) (spare : Spares) (who source access : ℕ) (result : Result Reply Refusal) (gs : List Grant) (new : State) → LastsDuplicate old spare who source access result gs new → StayedOrBegan old who (pended result) new
 duplicate_stayed old spare who source access result gs new lasts = go (nat_lt 0 (length spare.closed)) lasts

@@ -20,7 +20,7 @@ returns-clause-leaves c =
     let last = c.in_ok-handle.ensures.some in
     record {
       lawful = c.begin_first.ensures.lawful;
-      spare = begun_spare (state c.args.core.now) (state c.begin_first.new.core) c.in_ok-thread.thread c.in_ok-handle.handle (Reply.Handle c.in_ok-handle.handle) c.begin_first.new.core.grants spare c.take_handle.new.self c.requires.spare c.in_ok-thread.ensures.begun
+      spare = begun_spare (state c.args.core.now) (state c.begin_first.new.core) c.in_ok-thread.thread c.in_ok-handle.handle (Reply.Handle c.in_ok-handle.handle) c.begin_first.new.core.grants spare c.take_handle.new.self c.requires.spare c.in_ok-thread.ensures.begun.1
           (λ n. times_last n c.in_ok-handle.handle spare.closed c.take_handle.new.self.closed (c.take_handle.ensures.closed ∙ ap (λ (h : ℕ). c.take_handle.new.self.closed ++ h ∷ []) (sym last.1)))
           c.take_handle.ensures.unnamed;
       stacked = inr (last_closed c.args.spare.now, c.take_handle.ensures.closed);

@@ -88,7 +88,7 @@ create_at-answer-requires-clause-has c = record {
 
 pub create_at-answer-requires-clause-last : goal.create_at-answer-requires-clause-last
 create_at-answer-requires-clause-last c =
-    subst (λ (closed : List ℕ). IsClosedLast (record { closed = closed; unnamed = c.add_object-place.new.self.unnamed }) c.args.handle) (sym c.add_object-place.ensures.closed)
+    subst (λ (closed : List ℕ). IsClosedLast (record { closed = closed; unnamed = c.add_object-place.new.self.unnamed; turn = c.add_object-place.new.self.turn }) c.args.handle) (sym c.add_object-place.ensures.closed)
     (record { closed = c.requires.last.closed; handle = c.requires.last.handle })
 
 pub returns-in-Err-clause-leaves : goal.returns-in-Err-clause-leaves
