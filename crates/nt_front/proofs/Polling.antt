@@ -5,8 +5,15 @@ use Rattle.nt_status.specs.declared.refusal.Refusal.{Refusal}
 use Rattle.nt_mail.specs.declared.knowledge.Knowledge.{Knowledge}
 use Rattle.nt_mail.specs.Knowledge.{with_polled}
 use Rattle.std.specs.Prelude.{Ok}
-use Rattle.nt_front.specs.Holds.{IsGiven, IsSame}
+use Rattle.nt_front.specs.Holds.{IsGiven}
 use Rattle.nt_front.specs.Polls.{IsReady, IsStill, IsUngranted, TellsAny}
+
+-- the thread made no call and was given nothing, and read no moment
+pub record IsSame (old new : Knowledge) : Type 0 where
+  pub thread : new.thread ≡ old.thread
+  pub made : new.made ≡ old.made
+  pub got : new.got ≡ old.got
+  pub moments : new.moments ≡ old.moments
 
 same_as : (a b c : Knowledge) → IsSame a b → c.thread ≡ b.thread → c.made ≡ b.made → c.got ≡ b.got → c.moments ≡ b.moments → IsSame a c
 same_as a b c s p q r t = record { thread = p ∙ s.thread; made = q ∙ s.made; got = r ∙ s.got; moments = t ∙ s.moments }

@@ -35,13 +35,6 @@ pub record IsGiven (old : Knowledge) (number : ℕ) (result : Result Reply Refus
   pub got : new.got ≡ old.got ++ given number status ∷ []
   pub moments : new.moments ≡ old.moments
 
--- the thread made no call and was given nothing, and read no moment
-pub record IsSame (old new : Knowledge) : Type 0 where
-  pub thread : new.thread ≡ old.thread
-  pub made : new.made ≡ old.made
-  pub got : new.got ≡ old.got
-  pub moments : new.moments ≡ old.moments
-
 -- the moment of a tick that was accepted, or 0
 abbrev pub moment_if : Asked → Result Reply Refusal → ℕ
 moment_if (Asked.Call call) result = 0

@@ -116,6 +116,7 @@ impl Blank {
         requires name { self ≡ N.front }
         requires room { (made.passes.items ≡ []) × (self.threads ≤ vec_capacity made.passes) }
         requires base { state made.base ≡ opening self.threads }
+        requires bells { made.bells ≡ self.threads }
         ensures passes { result.1.items ≡ new_threads self.threads }
         ensures count { vec_len result.1 ≡ self.threads }
     {
@@ -155,6 +156,7 @@ struct Made<N: Named> {
 fn make_rest<N: Named>(alloc: Global, blank: &Blank) -> Result<Made<N>, Refusal>
     ensures passes { IfOk result (λ r. (r.passes.items ≡ []) × (blank.now.threads ≤ vec_capacity r.passes)) }
     ensures base { IfOk result (λ r. state r.base ≡ opening blank.now.threads) }
+    ensures bells { IfOk result (λ r. r.bells ≡ blank.now.threads) }
     ensures memory { IfErr result (λ r. r ≡ Memory) }
 {
     let threads = blank.threads as usize;

@@ -21,6 +21,7 @@ pub struct Front<N: Named> {
     pub(crate) book: Locked<N>,
     pub(crate) bells: Bells,
     ghost named: { mail ≡ N.front.table },
+    ghost belled: { bells ≡ N.front.threads },
 }
 
 /// Written by hand, so that whoever lets a front go has one function to call, and nothing to prove of its parts.

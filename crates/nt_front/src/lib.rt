@@ -41,6 +41,7 @@
 #![tactic(auto)]
 
 mod again;
+mod bell;
 mod blank;
 mod book;
 mod calls;

@@ -6,8 +6,9 @@ ghost use Rattle.std.specs.Prelude.{◌≡◌, [], length, IfOk, IfErr, IfSome, 
 ghost use Rattle.nt_status.specs.declared.refusal.Refusal.TheVariants.{Memory};
 ghost use Rattle.nt_front.specs.Marks.{IsMarkedToo, AreMarks};
 ghost use Rattle.nt_front.specs.Polls.{IsStill};
-ghost use Rattle.nt_front.specs.Wakes.{Wakes};
+ghost use Rattle.nt_front.specs.Wakes.{Wakes, marked_below, rings_for};
 
+use crate::bell::{Bell, Seen};
 use crate::hold::Sleeper;
 use crate::named::Named;
 use nt_core::Grant;
@@ -16,8 +17,7 @@ use nt_status::{MAX_THREADS, Refusal, ThreadId};
 use std::alloc::{AllocError, Global};
 use std::marker::Model;
 use std::snapshot::Snapshot;
-use std::sync::{Condvar, Wait};
-use std::time::Duration;
+use std::sync::Wait;
 
 /// A mark for this thread too.
 #[tactic(auto, using(crate::proofs::Marking::marked_thread, crate::proofs::Marking::marked_far))]
@@ -64,13 +64,6 @@ impl ToWake {
     }
 }
 
-/// A condition variable on which the thread with this number alone waits.
-#[derive(Drop)]
-pub(crate) struct Bell {
-    thread: ThreadId,
-    rung: Condvar,
-}
-
 /// A bell for each thread. Contracts see how many there are.
 #[derive(Drop)]
 pub(crate) struct Bells {
@@ -99,11 +92,7 @@ impl Bells {
     {
         let mut all = Vec::with_capacity(alloc, usize::from(threads))?;
         for thread in 0..threads {
-            let bell = Bell {
-                thread: ThreadId::new(thread),
-                rung: Condvar::new(),
-            };
-            all.push_reserved(bell);
+            all.push_reserved(Bell::new(ThreadId::new(thread)));
         }
         Ok(Bells { all })
     }
@@ -116,38 +105,45 @@ impl Bells {
         self.all.get(usize::from(thread.get()))
     }
 
-    /// Wakes these threads, and no others.
-    pub(crate) fn ring(&self, threads: ToWake) {
+    /// Rings the bells of these threads, and no others. It returns how many.
+    pub(crate) fn ring(&self, threads: ToWake) -> usize
+        ensures { result ≡ rings_for threads self.now }
+    {
         let ToWake { marks } = threads;
         match marks {
             Some(marks) => self.ring_slow(marks),
-            None => {}
+            None => 0,
         }
     }
 
-    /// Wakes the threads that have a mark.
+    /// Rings the bells of the threads that have a mark. It returns how many.
+    #[tactic(auto, using(crate::proofs::Belling::rings_most, crate::proofs::Belling::rings_none, crate::proofs::Belling::rings_once, crate::proofs::Belling::rings_far))]
     #[inline(never)]
-    fn ring_slow(&self, mut marks: FewMarks) {
+    fn ring_slow(&self, mut marks: FewMarks) -> usize
+        ensures { result ≡ marked_below self.now marks }
+    {
+        let mut rung = 0;
         while let Some(thread) = marks.take_first() {
             if let Some(bell) = self.all.get(thread) {
-                bell.rung.notify_one();
+                bell.ring();
+                rung += 1;
             }
         }
+        rung
     }
 
     /// A ticket for this thread, of how often its bell has rung by now.
     pub(crate) fn ticket<N: Named>(&self, sleeper: &Sleeper<N>) -> Ticket<'_, N>
         ensures before { result.before.value ≡ sleeper.now }
-        ensures bell { IfSome result.bell (λ bell. bell.now.thread ≡ sleeper.now.thread) }
+        ensures there { is_some result.seen ≡ nat_lt sleeper.now.thread self.now }
+        ensures own { IfSome result.seen (λ seen. seen.bell.now.thread ≡ sleeper.now.thread) }
     {
-        let bell = self.of(sleeper.thread());
-        let rings = match bell {
-            Some(bell) => bell.rung.notifications(),
-            None => 0,
+        let seen = match self.of(sleeper.thread()) {
+            Some(bell) => Some(bell.look()),
+            None => None,
         };
         Ticket {
-            bell,
-            rings,
+            seen,
             before: Snapshot::of(sleeper),
         }
     }
@@ -158,8 +154,7 @@ impl Bells {
 /// A grant is sent before its bell rings: one that the look does not find rings after this.
 #[derive(Drop)]
 pub(crate) struct Ticket<'b, N: Named> {
-    bell: Option<&'b Bell>,
-    rings: u64,
+    seen: Option<Seen<'b>>,
     before: Snapshot<Sleeper<N>>,
 }
 
@@ -167,11 +162,11 @@ impl<N: Named> Ticket<'_, N> {
     /// Sleeps until the thread's bell rings, unless it has rung since the ticket was made. It may return before, and takes no lock.
     pub(crate) fn sleep(&self, rt: &impl Wait, sleeper: &Sleeper<N>)
         requires looked { IsStill self.now.before.value sleeper.now }
-        requires own { IfSome self.now.bell (λ bell. bell.now.thread ≡ sleeper.now.thread) }
+        requires own { IfSome self.now.seen (λ seen. seen.bell.now.thread ≡ sleeper.now.thread) }
     {
         let _ = sleeper;
-        if let Some(bell) = self.bell {
-            bell.rung.sleep(rt, self.rings, Duration::MAX);
+        if let Some(seen) = &self.seen {
+            seen.sleep(rt);
         }
     }
 }
