@@ -15,10 +15,11 @@ use Rattle.nt_explore.specs.Search.{beginning}
 use Rattle.nt_explore.specs.Walk.{parent_of, lane_of, AreBehind, IsWalk, HasPoint, Tries, Arrives}
 use Rattle.nt_explore.specs.declared.loss.Edge.{Edge}
 use Rattle.nt_explore.specs.declared.loss.Edges.{Edges}
-use Rattle.nt_explore.specs.Levels.{IsFirst, AreLooked, AreEdges, IsEdge, IsRow, IsColumn, IsFirstMark, IsFirstLost, IsFirstLoss, IsLostThere, IsSearch, first_then, passed}
+use Rattle.nt_explore.specs.Levels.{IsFirst, AreLooked, AreEdges, IsEdge, IsRow, IsColumn, IsFirstMark, IsFirstLost, IsFirstLoss, IsLostThere, IsSearch, AreMet, IsCounted, first_then, passed}
 use Rattle.nt_explore.proofs.Losing.{below_or, AreOnward, lost_forth, lost_back, passed_tells, length_passed}
 use Rattle.nt_explore.proofs.Walks.{deeper, goes_wide, one_entry}
 use Rattle.nt_explore.proofs.Ways.{order_of}
+use Rattle.nt_explore.proofs.Counting.{met_begins}
 
 -- ---- the start
 
@@ -270,33 +271,40 @@ pub search_more : (plan : Plan) (start : Point) (old new : List Entry) (edges mo
     → ((point : ℕ → Point) → IsWalk plan start old point → point looked ≡ p → Tries plan start old new edges.pairs.items more.pairs.items p looked (length plan) point)
     → IsRow edges.waits.items more.waits.items edges.threads p.state
     → ((t : ℕ) → pends p.state t ≡ true → t < start.state.threads)
-    → last ≡ first_then hung looked first → IsSearch plan start old edges looked first → IsSearch plan start new more (looked + 1) last
+    → last ≡ first_then hung looked first → (search : IsSearch plan start old edges looked first)
+    → (tries : Tries plan start old new edges.pairs.items more.pairs.items (search.0 looked) looked (length plan) search.0)
+    × AreLooked plan start new (looked + 1) last tries.points
+    × AreEdges plan more.threads more.pairs.items more.waits.items (looked + 1) (length new) tries.points
+    × IsLostThere plan tries.points last
 search_more plan start old new edges more looked hung first last p below threads is told gone tries noted known becomes search =
     let point : ℕ → Point = search.0 in
     let so = search.1 in
     let here = is point so.walk in
     let tried = subst (λ (z : Point). Tries plan start old new edges.pairs.items more.pairs.items z looked (length plan) point) here (tries point so.walk (sym here)) in (
-      tried.points,
+      tried,
       subst (λ (f : Option ℕ). AreLooked plan start new (looked + 1) f tried.points) (sym becomes) (look_more plan start old new looked hung first point so below (subst (λ (z : Point). hung ≡ true ↔ Hangs plan z) here told) edges.pairs.items more.pairs.items tried),
       subst (λ (n : ℕ). AreEdges plan n more.pairs.items more.waits.items (looked + 1) (length new) tried.points) (sym threads)
           (edges_more plan start old new edges.threads looked edges.pairs.items more.pairs.items edges.waits.items more.waits.items point so.walk below search.2 tried (subst (λ (z : Point). IsRow edges.waits.items more.waits.items edges.threads z.state) here noted) (subst (λ (z : Point). (t : ℕ) → pends z.state t ≡ true → t < start.state.threads) here known)),
       subst (IsLostThere plan tried.points) (sym becomes) (lost_more plan point tried.points looked hung first (λ i less. tried.grows.same i (omega (arith, less, below))) (subst (λ (z : Point). hung ≡ true → (t : ℕ) × IsLost plan z t) here gone) so.told search.3),
     )
 
-pub search_begins : (plan : Plan) (s : State) (edges : Edges) → edges.threads ≡ s.threads → edges.pairs.items ≡ [] → edges.waits.items ≡ [] → IsSearch plan (beginning plan s) one_entry edges 0 None
+pub search_begins : (plan : Plan) (s : State) (edges : Edges) → edges.threads ≡ s.threads → edges.pairs.items ≡ [] → edges.waits.items ≡ [] → IsCounted plan (beginning plan s) one_entry edges 0 (record { hangs = 0; first = None }) (λ i. 1)
 search_begins plan s edges threads pairs waits = (
-  (λ i. beginning plan s),
-  begins plan s,
-  subst (λ (es : List Edge). AreEdges plan edges.threads es edges.waits.items 0 1 (λ i. beginning plan s)) (sym pairs) (subst (λ (ws : List Bool). AreEdges plan edges.threads [] ws 0 1 (λ i. beginning plan s)) (sym waits) (record {
-    goes = λ e (k, below, is). absurd (omega (arith, below));
-    rises = tt;
-    all = λ i lane q below. absurd (omega (arith, below));
-    first = sym threads;
-    count = grind (arith, rows);
-    told = λ i t below. absurd (omega (arith, below));
-    known = λ i t below. absurd (omega (arith, below));
-  })),
-  tt,
+  (
+    (λ i. beginning plan s),
+    begins plan s,
+    subst (λ (es : List Edge). AreEdges plan edges.threads es edges.waits.items 0 1 (λ i. beginning plan s)) (sym pairs) (subst (λ (ws : List Bool). AreEdges plan edges.threads [] ws 0 1 (λ i. beginning plan s)) (sym waits) (record {
+      goes = λ e (k, below, is). absurd (omega (arith, below));
+      rises = tt;
+      all = λ i lane q below. absurd (omega (arith, below));
+      first = sym threads;
+      count = grind (arith, rows);
+      told = λ i t below. absurd (omega (arith, below));
+      known = λ i t below. absurd (omega (arith, below));
+    })),
+    tt,
+  ),
+  subst (λ (n : ℕ). AreMet plan (beginning plan s) 0 1 n 0 (λ i. beginning plan s) (λ i. 1)) (sym (ap (λ (es : List Edge). length es) pairs)) (met_begins plan s),
 )
 
 -- ---- what it has come to

@@ -3,5 +3,6 @@ pub mod Ways
 pub mod Walks
 pub mod Losing
 pub mod Levels
+pub mod Counting
 pub mod Hung
 pub mod Adding

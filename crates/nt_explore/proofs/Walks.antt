@@ -1,12 +1,13 @@
 -- How the table grows.
-use Rattle.std.proofs.Common.{◌≡◌, ◌≢◌, ◌<◌, ◌≤◌, ℕ, ◌+◌, Bool, true, false, List, [], ◌∷◌, ◌++◌, length, refl, sym, ap, ◌∙◌, subst, arith, Option, Some, None, eqb, ltb, if◌then◌else◌, inl, inr, ◌⊎◌}
+use Rattle.std.proofs.Common.{◌≡◌, ◌≢◌, ◌<◌, ◌≤◌, ℕ, suc, ◌+◌, Bool, true, false, List, [], ◌∷◌, ◌++◌, length, refl, sym, ap, ◌∙◌, subst, arith, Option, Some, None, eqb, ltb, if◌then◌else◌, inl, inr, ◌⊎◌}
 use Rattle.std.specs.Prelude.{Result, Ok, Err, IfOk, OnOk}
 use Rattle.std.proofs.lemmas.Bool.Decides.{nat_tests}
 use Rattle.std.proofs.lemmas.List.{length-set, length_push, get_or_push, get_or_append_left}
 use Rattle.nt_look.specs.Orders.{Plan, Point, Goes, steps, place}
 use Rattle.nt_look.proofs.Searching.{steps_counted}
 use Rattle.nt_explore.specs.declared.met.Entry.{Entry}
-use Rattle.nt_explore.specs.Walk.{no_entry, parent_of, lane_of, AreBehind, IsWalk, HasPoint, IsFound, Meets, TriesLane, Tries, edge, Went, LeadsTo}
+use Rattle.nt_explore.specs.Walk.{no_entry, parent_of, lane_of, AreBehind, IsWalk, HasPoint, IsFound, Meets, TriesLane, Tries, CanGoTo, edge, Went, LeadsTo}
+use Rattle.nt_explore.specs.Search.{CanGo, IsOneIf, SumsTo}
 use Rattle.nt_explore.specs.declared.loss.Edge.{Edge}
 use Rattle.nt_explore.proofs.Losing.{below_or, leads_on, leads_none, leads_then}
 use Rattle.nt_explore.proofs.Unique.{goes_same}
@@ -98,6 +99,9 @@ meets_old plan start entries p j point found walk = record {
 
 -- ---- lanes
 
+pub sums_on : (is : ℕ → ℕ → Type 0) (n before last sum : ℕ) → SumsTo is n before → is n last → sum ≡ before + last → SumsTo is (n + 1) sum
+sums_on is n before last sum old here total = let more : suc n ≡ n + 1 = omega arith in subst (λ (k : ℕ). SumsTo is k sum) more (before, last, old, here, total)
+
 pub deeper : (plan : Plan) (p q : Point) (lane : ℕ) → length p.at ≡ length plan → Goes plan p lane q → steps q.at ≡ steps p.at + 1
 deeper plan p q lane wide goes = steps_counted plan (lane ∷ []) p q wide (q, goes, refl)
 
@@ -106,8 +110,10 @@ lane_went plan start old new pairs p next index lane j point wide goes meets = r
   points = meets.points;
   grows = meets.grows;
   deep = λ i past below. ap (λ (z : Point). steps z.at) (meets.deep i past below) ∙ deeper plan p next lane wide goes;
+  came = λ i past below. (lane, subst (λ (z : Point). Goes plan p lane z) (sym (meets.deep i past below)) goes);
   tried = λ q other. (j, meets.there, meets.is ∙ goes_same plan p lane next q goes other);
   leads = leads_on plan p next index lane j (length new) meets.points pairs meets.there meets.is goes;
+  count = (1, inl ((next, goes), refl), length_push pairs (edge index j));
 }
 
 pub lane_stays : (plan : Plan) (start : Point) (entries : List Entry) (pairs : List Edge) (p : Point) (index lane : ℕ) (point : ℕ → Point) → ((q : Point) → Goes plan p lane q → ⊥) → IsWalk plan start entries point → TriesLane plan start entries entries pairs pairs p index lane point
@@ -115,8 +121,10 @@ lane_stays plan start entries pairs p index lane point never walk = record {
   points = point;
   grows = record { walk = walk; longer = omega arith; same = λ i below. refl };
   deep = λ i past below. absurd (omega (arith, past, below));
+  came = λ i past below. absurd (omega (arith, past, below));
   tried = λ q goes. absurd (never q goes);
   leads = leads_none plan p index (length entries) point pairs (λ l. l ≡ lane) (λ l q is goes. never q (subst (λ (k : ℕ). Goes plan p k q) is goes));
+  count = (0, inr (λ can. never can.0 can.1, refl), omega arith);
 }
 
 pub tries_none : (plan : Plan) (start : Point) (entries : List Entry) (pairs : List Edge) (p : Point) (index : ℕ) (point : ℕ → Point) → IsWalk plan start entries point → Tries plan start entries entries pairs pairs p index 0 point
@@ -124,8 +132,10 @@ tries_none plan start entries pairs p index point walk = record {
   points = point;
   grows = record { walk = walk; longer = omega arith; same = λ i below. refl };
   deep = λ i past below. absurd (omega (arith, past, below));
+  came = λ i past below. absurd (omega (arith, past, below));
   tried = λ lane q below. absurd (omega (arith, below));
   leads = leads_none plan p index (length entries) point pairs (λ l. l < 0) (λ l q below goes. absurd (omega (arith, below)));
+  count = (0, refl, omega arith);
 }
 
 pub tries_more : (plan : Plan) (start : Point) (old mid new : List Entry) (first halfway last : List Edge) (p : Point) (lanes index : ℕ) (point : ℕ → Point) → index < length old → point index ≡ p → (tries : Tries plan start old mid first halfway p index lanes point) → ((points : ℕ → Point) → IsWalk plan start mid points → points index ≡ p → TriesLane plan start mid new halfway last p index lanes points) → Tries plan start old new first last p index (lanes + 1) point
@@ -133,8 +143,15 @@ tries_more plan start old mid new first halfway last p lanes index point within 
   points = more.points;
   grows = record { walk = more.grows.walk; longer = omega (arith, longer, second); same = λ i below. more.grows.same i (omega (arith, below, longer)) ∙ tries.grows.same i below };
   deep = λ i past below. deep i past below (ltb i (length mid)) refl;
+  came = λ i past below. came i past below (ltb i (length mid)) refl;
   tried = λ l q below goes. tried l q goes (below_or l lanes below);
   leads = leads_then plan p index (length mid) (length new) lanes tries.points more.points first halfway last second more.grows.same tries.leads more.leads;
+  count =
+      let before = tries.count in
+      let one = more.count in
+      let start = before.2 in
+      let end = one.2 in
+      (before.0 + one.0, sums_on (λ l. IsOneIf (CanGo plan p l)) lanes before.0 one.0 (before.0 + one.0) before.1 one.1 refl, omega (arith, start, end));
 }
   where
     more : TriesLane plan start mid new halfway last p index lanes tries.points
@@ -149,6 +166,10 @@ tries_more plan start old mid new first halfway last p lanes index point within 
     deep : (i : ℕ) → length old ≤ i → i < length new → (b : Bool) → ltb i (length mid) ≡ b → steps (more.points i).at ≡ steps p.at + 1
     deep i past below true e = let inside : i < length mid = grind (arith, nat_tests, e) in ap (λ (z : Point). steps z.at) (more.grows.same i inside) ∙ tries.deep i past inside
     deep i past below false e = more.deep i (grind (arith, nat_tests, e)) below
+
+    came : (i : ℕ) → length old ≤ i → i < length new → (b : Bool) → ltb i (length mid) ≡ b → CanGoTo plan p (more.points i)
+    came i past below true e = let inside : i < length mid = grind (arith, nat_tests, e) in subst (λ (z : Point). CanGoTo plan p z) (sym (more.grows.same i inside)) (tries.came i past inside)
+    came i past below false e = more.came i (grind (arith, nat_tests, e)) below
 
     tried : (l : ℕ) (q : Point) → Goes plan p l q → (l < lanes) ⊎ (l ≡ lanes) → HasPoint new more.points q
     tried l q goes (inl before) =

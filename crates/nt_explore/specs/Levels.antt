@@ -7,8 +7,11 @@ use Rattle.nt_look.specs.Orders.{Plan, Point, Goes, Hangs, IsLost, steps}
 use Rattle.nt_explore.specs.declared.loss.Edge.{Edge}
 use Rattle.nt_explore.specs.declared.loss.Edges.{Edges}
 use Rattle.nt_explore.specs.declared.met.Entry.{Entry}
-use Rattle.nt_explore.specs.Search.{beginning, start_of}
-use Rattle.nt_explore.specs.Walk.{IsWalk, HasPoint, Rises}
+use Rattle.nt_explore.specs.declared.explored.Verdict.{Verdict}
+use Rattle.nt_explore.specs.declared.explored.Verdict.TheVariants as verdict
+use Rattle.nt_explore.specs.declared.search.Counts.{Counts}
+use Rattle.nt_explore.specs.Search.{beginning, start_of, AreMetInTurn, AreCounts}
+use Rattle.nt_explore.specs.Walk.{IsWalk, HasPoint, Rises, Arrives}
 
 -- the first that hangs, of those that were looked at
 abbrev pub IsFirst : Plan → (ℕ → Point) → ℕ → Option ℕ → Type 0
@@ -51,10 +54,27 @@ IsSearch plan start entries edges looked first =
     × AreEdges plan edges.threads edges.pairs.items edges.waits.items looked (length entries) point
     × IsLostThere plan point first
 
+-- which points each look met, and the counts of them
+pub record AreMet (plan : Plan) (start : Point) (looked states steps hangs : ℕ) (point : ℕ → Point) (met : ℕ → ℕ) : Type 0 where
+  pub turns : AreMetInTurn plan start point met looked
+  pub counts : AreCounts plan point looked (met looked) states steps hangs
+  pub low : (i : ℕ) → i ≤ looked → met i ≤ states
+
+-- so far the search is, with its counts
+abbrev pub IsCounted : Plan → Point → List Entry → Edges → ℕ → Counts → (ℕ → ℕ) → Type 0
+IsCounted plan start entries edges looked counts met =
+    (search : IsSearch plan start entries edges looked counts.first)
+    × AreMet plan start looked (length entries) (length edges.pairs.items) counts.hangs search.0 met
+
+-- the same up to the looks so far, and after one more this many states are met
+abbrev pub then_met : (ℕ → ℕ) → ℕ → ℕ → ℕ → ℕ
+then_met met looked states i = if nat_lt looked i then states else met i
+
 -- one state more was looked at, of a search from this dispatcher
-abbrev pub LooksOn : Plan → Dispatcher → (old new : List Entry) → (edges more : Edges) → ℕ → (first first' : Option ℕ) → Type 0
-LooksOn plan core old new edges more looked first first' =
-    IsSearch plan (start_of plan core) old edges looked first → IsSearch plan (start_of plan core) new more (looked + 1) first'
+abbrev pub LooksOn : Plan → Dispatcher → (old new : List Entry) → (edges more : Edges) → ℕ → (counts counts' : Counts) → Type 0
+LooksOn plan core old new edges more looked counts counts' =
+    (met : ℕ → ℕ) → IsCounted plan (start_of plan core) old edges looked counts met
+    → IsCounted plan (start_of plan core) new more (looked + 1) counts' (then_met met looked (length new))
 
 -- it is so of every search that came so far
 abbrev pub OfSearch : List Entry → Edges → ℕ → Option ℕ → (Plan → Point → Type 0) → Type 0
@@ -108,6 +128,20 @@ abbrev pub earlier : Option (ℕ × ℕ) → Option ℕ → ℕ → Option (ℕ 
 earlier best None t = best
 earlier None (Some h) t = Some (h, t)
 earlier (Some (first, u)) (Some h) t = if nat_lt h first then Some (h, t) else Some (first, u)
+
+-- one more where it is so
+abbrev pub one_more_if : Bool → ℕ → ℕ
+one_more_if true count = count + 1
+one_more_if false count = count
+
+-- where the bound is reported, none hangs and a state is left, which lies a step deeper than the level
+abbrev pub LiesAt : List Entry → ℕ → Option ℕ → Verdict → Type 0
+LiesAt entries looked first (verdict.Met level) =
+    (first ≡ None) × (looked < length entries)
+    × (way : List ℕ) × (length way ≡ level + 1)
+    × ((plan : Plan) (start : Point) (point : ℕ → Point) → IsWalk plan start entries point → Arrives plan start way (point looked))
+LiesAt entries looked first verdict.None = Unit {0}
+LiesAt entries looked first (verdict.Hangs lanes loss) = Unit {0}
 
 -- the first that hangs, where the next one hangs or does not
 abbrev pub first_then : Bool → ℕ → Option ℕ → Option ℕ

@@ -4,6 +4,7 @@ use Rattle.nt_calls.specs.State.{State, pends}
 use Rattle.nt_core.specs.Dispatcher.{Dispatcher, state}
 use Rattle.nt_look.specs.Hangs.{marked}
 use Rattle.nt_look.specs.Orders.{Plan, Point, Goes, steps}
+use Rattle.nt_explore.specs.Search.{CanGo, CountsTo, IsOneIf}
 use Rattle.nt_explore.specs.declared.loss.Edge.{Edge}
 use Rattle.nt_explore.specs.declared.met.Entry.{Entry}
 use Rattle.nt_explore.specs.declared.place.Place.{Place}
@@ -90,21 +91,29 @@ pub record Meets (plan : Plan) (start : Point) (old new : List Entry) (p : Point
   pub is : points j ≡ p
   pub deep : (i : ℕ) → length old ≤ i → i < length new → points i ≡ p
 
+-- a lane leads from the one point to the other
+abbrev pub CanGoTo : Plan → Point → Point → Type 0
+CanGoTo plan p q = (lane : ℕ) × Goes plan p lane q
+
 -- each of the first lanes leads from this point to one of them
 pub record Tries (plan : Plan) (start : Point) (old new : List Entry) (pairs more : List Edge) (p : Point) (index lanes : ℕ) (point : ℕ → Point) : Type 0 where
   pub points : ℕ → Point
   pub grows : Grows plan start old new point points
   pub deep : (i : ℕ) → length old ≤ i → i < length new → steps (points i).at ≡ steps p.at + 1
+  pub came : (i : ℕ) → length old ≤ i → i < length new → CanGoTo plan p (points i)
   pub tried : (lane : ℕ) (q : Point) → lane < lanes → Goes plan p lane q → HasPoint new points q
   pub leads : Leads plan p index (length new) points (λ lane. lane < lanes) pairs more
+  pub count : (steps : ℕ) × CountsTo (CanGo plan p) lanes steps × (length more ≡ length pairs + steps)
 
 -- one more lane leads from this point to one of them
 pub record TriesLane (plan : Plan) (start : Point) (old new : List Entry) (pairs more : List Edge) (p : Point) (index lane : ℕ) (point : ℕ → Point) : Type 0 where
   pub points : ℕ → Point
   pub grows : Grows plan start old new point points
   pub deep : (i : ℕ) → length old ≤ i → i < length new → steps (points i).at ≡ steps p.at + 1
+  pub came : (i : ℕ) → length old ≤ i → i < length new → CanGoTo plan p (points i)
   pub tried : (q : Point) → Goes plan p lane q → HasPoint new points q
   pub leads : Leads plan p index (length new) points (λ l. l ≡ lane) pairs more
+  pub count : (steps : ℕ) × IsOneIf (CanGo plan p lane) steps × (length more ≡ length pairs + steps)
 
 -- one of these threads waits
 abbrev pub WaitsAmong : State → List Bool → Type 0

@@ -34,8 +34,9 @@ pub struct Met {
 pub fn way_to(alloc: Global, entries: &[Entry], index: usize) -> Result<Vec<u32>, AllocError>
     requires behind { AreBehind entries.now }
     requires there { index < length entries.now }
-    ensures { IfOk result (λ way. (plan : Plan) (start : Point) (point : ℕ → Point) → IsWalk plan start entries.now point
+    ensures way { IfOk result (λ way. (plan : Plan) (start : Point) (point : ℕ → Point) → IsWalk plan start entries.now point
         → Arrives plan start way.items (point index)) }
+    ensures some { IfOk result (λ way. 0 < index → 0 < length way.items) }
 {
     let mut way = Vec::new(alloc);
     let mut at = index;

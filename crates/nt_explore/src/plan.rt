@@ -75,6 +75,7 @@ impl Plan {
     pub fn add(&mut self, lane: u32, ask: Ask) -> Result<(), AllocError>
         ensures ok { OnOk result (self.new ≡ slice_set self.old lane (asks self.old lane ++ asked ask ∷ [])) }
         ensures err { OnErr result (self.new ≡ self.old) }
+        ensures beyond { length self.old ≤ lane → result ≡ Ok tt }
     {
         if lane as usize >= self.lanes.len() {
             return Ok(());

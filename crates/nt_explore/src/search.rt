@@ -1,10 +1,10 @@
 //! The search, level by level.
-ghost use Rattle.std.specs.Prelude.{◌≡◌, ◌<◌, ◌≤◌, ◌^◌, ℕ, length, Option, None, Some, IsSome, IfOk, OnOk};
+ghost use Rattle.std.specs.Prelude.{◌≡◌, ◌<◌, ◌≤◌, ◌+◌, ◌^◌, ℕ, length, Option, None, Some, IsSome, IfOk, OnOk};
 ghost use Rattle.std.specs.Option.{ForSome, option_map};
 ghost use Rattle.nt_explore.specs.declared.loss.Edges.{Edges};
-ghost use Rattle.nt_explore.specs.Search.{start_of, TellsVerdict, TellsLoss, HasLoss};
+ghost use Rattle.nt_explore.specs.Search.{start_of, TellsVerdict, TellsLoss, HasLoss, TellsSearch, Learns};
 ghost use Rattle.nt_explore.specs.Walk.{point_of, AreBehind, LeadsTo, TriesAt, TriesLaneAt, TriesLaneTo};
-ghost use Rattle.nt_explore.specs.Levels.{LooksOn, OfSearch, first_then};
+ghost use Rattle.nt_explore.specs.Levels.{LiesAt, LooksOn, OfSearch, first_then, one_more_if};
 
 use crate::explored::{Explored, Loss, Verdict};
 use crate::going::go;
@@ -16,16 +16,19 @@ use crate::plan::Plan;
 use nt_core::Core;
 use std::alloc::{AllocError, Global};
 
-/// Who is told how far the search is.
+/// Who learns how far the search is.
 pub trait Watcher {
-    /// So many states were looked at, of so many that were met.
-    fn tell(&mut self, looked: usize, states: usize);
+    /// What becomes of the watcher as it learns these two counts.
+    ghost learns: { Self → ℕ → ℕ → Self → Type 0 };
+
+    /// How many states were looked at, and how many were met.
+    fn tell(&mut self, looked: usize, states: usize)
+        ensures { learns self.old looked states self.new };
 }
 
 /// What was counted, and the first state that hangs.
 #[derive(Drop)]
 struct Counts {
-    steps: usize,
     hangs: usize,
     first: Option<usize>,
 }
@@ -59,7 +62,7 @@ fn meet_next(
     next: &Place,
     index: usize,
     lane: u32,
-) -> Result<bool, AllocError>
+) -> Result<(), AllocError>
     requires behind { AreBehind met.old.entries.items }
     requires there { index < length met.old.entries.items }
     ensures point { OnOk result (TriesLaneTo plan.now (start_of plan.now start.now) met.old.entries.items met.new.entries.items
@@ -68,11 +71,10 @@ fn meet_next(
     ensures longer { OnOk result (length met.old.entries.items ≤ length met.new.entries.items) }
 {
     let to = met.meet(alloc, start, plan, next, index, lane)?;
-    lead(pairs, index, to)?;
-    Ok(true)
+    lead(pairs, index, to)
 }
 
-/// Tries one lane from the place, which is the state with this number. Tells whether it went.
+/// Tries one lane from the place, which is the state with this number.
 fn try_lane(
     alloc: Global,
     start: &Core,
@@ -82,7 +84,7 @@ fn try_lane(
     place: &Place,
     index: usize,
     lane: u32,
-) -> Result<bool, AllocError>
+) -> Result<(), AllocError>
     requires behind { AreBehind met.old.entries.items }
     requires there { index < length met.old.entries.items }
     requires wide { length place.now.places.items ≡ length plan.now }
@@ -94,12 +96,12 @@ fn try_lane(
 {
     let next = next_of(alloc, plan, place, lane)?;
     match next {
-        None => Ok(false),
+        None => Ok(()),
         Some(next) => meet_next(alloc, start, plan, met, pairs, &next, index, lane),
     }
 }
 
-/// Tries each lane from the place, which is the state with this number. Tells how many went.
+/// Tries each lane from the place, which is the state with this number.
 fn try_lanes(
     alloc: Global,
     start: &Core,
@@ -108,7 +110,7 @@ fn try_lanes(
     pairs: &mut Vec<Edge>,
     place: &Place,
     index: usize,
-) -> Result<usize, AllocError>
+) -> Result<(), AllocError>
     requires behind { AreBehind met.old.entries.items }
     requires there { index < length met.old.entries.items }
     requires wide { length place.now.places.items ≡ length plan.now }
@@ -117,13 +119,10 @@ fn try_lanes(
     ensures behind { OnOk result (AreBehind met.new.entries.items) }
     ensures longer { OnOk result (length met.old.entries.items ≤ length met.new.entries.items) }
 {
-    let mut steps: usize = 0;
     for lane in 0..plan.lanes() {
-        if try_lane(alloc, start, plan, met, pairs, place, index, lane as u32)? {
-            steps = steps.saturating_add(1);
-        }
+        try_lane(alloc, start, plan, met, pairs, place, index, lane as u32)?;
     }
-    Ok(steps)
+    Ok(())
 }
 
 /// The first state that hangs, where the next one hangs or does not.
@@ -135,6 +134,14 @@ fn first_then(hung: bool, index: usize, first: Option<usize>) -> Option<usize>
     } else {
         first
     }
+}
+
+/// One more where it is so.
+fn one_more_if(so: bool, count: usize) -> usize
+    requires { count + 1 < 2 ^ 64 }
+    ensures { result ≡ one_more_if so count }
+{
+    if so { count + 1 } else { count }
 }
 
 /// Looks at the next state.
@@ -149,19 +156,20 @@ fn look_at(
 ) -> Result<(), AllocError>
     requires behind { AreBehind met.old.entries.items }
     requires there { index < length met.old.entries.items }
+    requires few { counts.old.hangs ≤ index }
     ensures point { OnOk result (LooksOn plan.now start.now met.old.entries.items met.new.entries.items
-        edges.old edges.new index counts.old.first counts.new.first) }
+        edges.old edges.new index counts.old counts.new) }
+    ensures few { OnOk result (counts.new.hangs ≤ index + 1) }
     ensures behind { OnOk result (AreBehind met.new.entries.items) }
     ensures longer { OnOk result (length met.old.entries.items ≤ length met.new.entries.items) }
 {
     let place = again(alloc, start, plan, &met.entries, index)?;
     place.core.stands();
     let hung = hangs(alloc, plan, &place)?;
-    let steps = try_lanes(alloc, start, plan, met, &mut edges.pairs, &place, index)?;
+    try_lanes(alloc, start, plan, met, &mut edges.pairs, &place, index)?;
     note_waits(&mut edges.waits, edges.threads, &place)?;
     counts.first = first_then(hung, index, counts.first);
-    counts.hangs = counts.hangs.saturating_add(usize::from(hung));
-    counts.steps = counts.steps.saturating_add(steps);
+    counts.hangs = one_more_if(hung, counts.hangs);
     Ok(())
 }
 
@@ -198,6 +206,7 @@ fn judge_hang(
         OfSearch entries.now edges.now looked (Some first) (λ plan start. TellsVerdict plan start verdict)) }
     ensures whole { IfOk result (λ verdict.
         OfSearch entries.now edges.now looked (Some first) (λ plan start. length entries.now ≤ looked → HasLoss verdict)) }
+    ensures level { IfOk result (LiesAt entries.now looked (Some first)) }
 {
     let mut lanes = way_to(alloc, entries, first)?;
     lanes.reverse();
@@ -213,6 +222,7 @@ fn judge_rest(alloc: Global, entries: &[Entry], looked: usize) -> Result<Verdict
     ensures told { IfOk result (λ verdict. (edges : Edges)
         → OfSearch entries.now edges looked None (λ plan start. TellsVerdict plan start verdict)) }
     ensures whole { IfOk result HasLoss }
+    ensures level { IfOk result (LiesAt entries.now looked None) }
 {
     if looked == entries.len() {
         return Ok(Verdict::None);
@@ -238,6 +248,7 @@ fn judge(
         OfSearch entries.now edges.now looked first (λ plan start. TellsVerdict plan start verdict)) }
     ensures whole { IfOk result (λ verdict.
         OfSearch entries.now edges.now looked first (λ plan start. length entries.now ≤ looked → HasLoss verdict)) }
+    ensures level { IfOk result (LiesAt entries.now looked first) }
 {
     match first {
         Some(first) => judge_hang(alloc, entries, edges, looked, first),
@@ -255,10 +266,12 @@ pub fn explore<W: Watcher>(
 ) -> Result<Explored, AllocError>
     ensures told { IfOk result (λ explored. TellsVerdict plan.now (start_of plan.now start.now) explored.verdict) }
     ensures whole { IfOk result (λ explored. explored.states ≤ most → HasLoss explored.verdict) }
+    ensures searched { IfOk result (λ explored. (met : ℕ → ℕ) × (looked : ℕ)
+        × TellsSearch plan.now (start_of plan.now start.now) most met looked explored
+        × Learns W.learns met looked watcher.old watcher.new) }
 {
     let mut met = Met::new(alloc)?;
     let mut counts = Counts {
-        steps: 0,
         hangs: 0,
         first: None,
     };
@@ -280,7 +293,7 @@ pub fn explore<W: Watcher>(
     let verdict = judge(alloc, &met.entries, &edges, looked, counts.first)?;
     Ok(Explored {
         states: met.entries.len(),
-        steps: counts.steps,
+        steps: edges.pairs.len(),
         hangs: counts.hangs,
         verdict,
     })

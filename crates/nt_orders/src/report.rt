@@ -14,11 +14,13 @@ use nt_hangs::{Report, before_zero, put_number, put_thread_title, put_waiters};
 use nt_look::is_stuck;
 use std::alloc::{AllocError, Global};
 
-/// Nobody is told how far the search is.
+/// Nobody learns how far the search is.
 #[derive(Drop)]
 struct Nobody;
 
 impl Watcher for Nobody {
+    ghost learns = { λ old looked states new. Unit {0} };
+
     fn tell(&mut self, _looked: usize, _states: usize) {}
 }
 

@@ -6,4 +6,5 @@ abbrev pub decreases-loop-at : goal.decreases-loop-at
 decreases-loop-at l = l.at
 
 abbrev pub invariant-loop-at : goal.invariant-loop-at
-invariant-loop-at l = (l.at < length l.entries) × LeadsOn l.entries l.index l.at l.way.items
+invariant-loop-at l =
+    (l.at < length l.entries) × LeadsOn l.entries l.index l.at l.way.items × (l.at < l.index → 0 < length l.way.items)

@@ -1,8 +1,9 @@
-use Rattle.std.proofs.Common.{◌≤◌, ◌<◌, ◌-◌, ◌+◌, length}
+use Rattle.std.proofs.Common.{ℕ, ◌≤◌, ◌<◌, ◌-◌, ◌+◌, length}
 use Rattle.nt_core.specs.Dispatcher.{state}
-use Rattle.nt_explore.specs.Search.{beginning}
+use Rattle.nt_explore.specs.Search.{beginning, Learns}
 use Rattle.nt_explore.specs.Walk.{AreBehind}
-use Rattle.nt_explore.specs.Levels.{IsSearch}
+use Rattle.nt_explore.specs.Levels.{IsCounted}
+use Rattle.nt_explore.proofs.Counting.{HasLeft}
 use Rattle.nt_explore.proofs.search.explore.Given as goal
 
 abbrev pub decreases-loop-looked : goal.decreases-loop-looked
@@ -13,4 +14,8 @@ invariant-loop-looked g l =
     (l.looked ≤ length l.met.entries.items)
     × (0 < length l.met.entries.items)
     × AreBehind l.met.entries.items
-    × IsSearch l.plan (beginning l.plan (state l.start)) l.met.entries.items l.edges l.looked l.counts.first
+    × (l.counts.hangs ≤ l.looked)
+    × (met : ℕ → ℕ)
+    × IsCounted l.plan (beginning l.plan (state l.start)) l.met.entries.items l.edges l.looked l.counts met
+    × HasLeft l.most met l.looked
+    × Learns g.W.Watcher.learns met l.looked l.initial.watcher l.watcher

@@ -1,7 +1,7 @@
-use Rattle.std.proofs.Common.{subst, ℕ}
+use Rattle.std.proofs.Common.{subst, sym, ℕ}
 use Rattle.std.specs.Prelude.{Option}
 use Rattle.nt_explore.specs.Search.{beginning}
-use Rattle.nt_explore.specs.Levels.{IsSearch}
+use Rattle.nt_explore.specs.Levels.{IsSearch, LiesAt}
 use Rattle.nt_explore.proofs.Ways.{if_ok}
 use Rattle.nt_explore.proofs.search.judge.Goals as goal
 
@@ -16,3 +16,9 @@ returns-in-Some-clause-whole c = if_ok _ _ c.judge_hang.result (λ verdict told 
 
 pub returns-in-None-clause-whole : goal.returns-in-None-clause-whole
 returns-in-None-clause-whole c = if_ok _ _ c.judge_rest.result (λ verdict told plan s search all. told) c.judge_rest.ensures.whole
+
+pub returns-in-Some-clause-level : goal.returns-in-Some-clause-level
+returns-in-Some-clause-level c = if_ok _ _ c.judge_hang.result (λ verdict lies. subst (λ (f : Option ℕ). LiesAt c.args.entries.now c.args.looked f verdict) (sym c.in-Some.is) lies) c.judge_hang.ensures.level
+
+pub returns-in-None-clause-level : goal.returns-in-None-clause-level
+returns-in-None-clause-level c = if_ok _ _ c.judge_rest.result (λ verdict lies. subst (λ (f : Option ℕ). LiesAt c.args.entries.now c.args.looked f verdict) (sym c.in-None.is) lies) c.judge_rest.ensures.level

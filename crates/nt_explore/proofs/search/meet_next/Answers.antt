@@ -2,7 +2,8 @@ use Rattle.nt_core.specs.Dispatcher.{state}
 use Rattle.nt_explore.specs.Search.{beginning}
 use Rattle.nt_explore.specs.Walk.{point_of}
 use Rattle.nt_explore.proofs.Walks.{lane_met}
+use Rattle.nt_explore.proofs.Ways.{on_ok}
 use Rattle.nt_explore.proofs.search.meet_next.Goals as goal
 
 pub returns-clause-point : goal.returns-clause-point
-returns-clause-point c = λ p wide point walk here goes. lane_met c.args.plan.now (beginning c.args.plan.now (state c.args.start.now)) c.args.met.now.entries.items c.meet.new.self.entries.items c.args.pairs.now.items c.lead.new.pairs.items p (point_of c.args.next.now) c.args.lane c.args.index c.in_ok-to.to wide c.in_ok-lead.ensures c.in_ok-to.ensures.point point walk here goes
+returns-clause-point c = on_ok _ _ c.lead.result (λ added p wide point walk here goes. lane_met c.args.plan.now (beginning c.args.plan.now (state c.args.start.now)) c.args.met.now.entries.items c.meet.new.self.entries.items c.args.pairs.now.items c.lead.new.pairs.items p (point_of c.args.next.now) c.args.lane c.args.index c.in_ok-to.to wide added c.in_ok-to.ensures.point point walk here goes) c.lead.ensures
