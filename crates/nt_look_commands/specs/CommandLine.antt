@@ -5,6 +5,9 @@ use Rattle.std.specs.Option.{option_copied}
 use Rattle.nt_lines.specs.Options.{ends_options, is_operand}
 use Rattle.nt_lines.specs.declared.words.TheConstants.{MAX_DIGITS}
 use Rattle.nt_lines.specs.Words.{caller_of, digits_number}
+use Rattle.nt_drawing.specs.declared.draw.Drawing.{Drawing}
+use Rattle.nt_drawing.specs.declared.draw.Form.{Form}
+use Rattle.nt_drawing.specs.declared.draw.Form.TheVariants.{Page, Picture, Trace}
 use Rattle.nt_look_commands.specs.declared.command.Command.{Command}
 use Rattle.nt_look_commands.specs.declared.command.Command.TheVariants as command
 use Rattle.nt_look_commands.specs.declared.look.TheConstants.{MANY_STATES, MOST_STATES}
@@ -46,12 +49,17 @@ are_lawful_options command (word ∷ value ∷ others) =
 -- what a command is to do
 pub data LookAsked : Type 0 where
   AskedWhy : (file : List ℕ) → (at : Option ℕ) → LookAsked
-  AskedTimeline : (file : List ℕ) → (lines : Option (ℕ × ℕ)) → (object : Option (List ℕ)) → (thread : Option ℕ) → (svg : Option (List ℕ)) → LookAsked
+  AskedTimeline : (file : List ℕ) → (lines : Option (ℕ × ℕ)) → (object : Option (List ℕ)) → (thread : Option ℕ) → (drawing : Option (Form × List ℕ)) → LookAsked
   AskedExplore : (file : List ℕ) → (most : ℕ) → LookAsked
+
+-- the form of a drawing, and the file
+abbrev pub drawing_asked : Drawing → Form × List ℕ
+drawing_asked drawing = (drawing.form, drawing.out.now)
 
 abbrev pub look_asked : Look → LookAsked
 look_asked (look.Why file at) = AskedWhy file.now at
-look_asked (look.Timeline file part svg) = AskedTimeline file.now part.lines (option_copied part.object) part.thread (option_copied svg)
+look_asked (look.Timeline file part drawing) =
+    AskedTimeline file.now part.lines (option_copied part.object) part.thread (option_map drawing_asked drawing)
 look_asked (look.Explore file most) = AskedExplore file.now most
 
 -- the number of a line, from 1 on
@@ -82,10 +90,29 @@ is_dot byte = byte == 46
 abbrev pub line_range_in : List ℕ → Option (ℕ × ℕ)
 line_range_in word = option_and_then (λ place. both (line_number_in (take place word)) (after_dots (drop place word))) (position is_dot word)
 
+-- a picture, a page or a trace, each into the file that its option names; none where two of them are asked for
+abbrev pub drawing_of : (svg html trace : Option (List ℕ)) → Option (Option (Form × List ℕ))
+drawing_of None None None = Some None
+drawing_of (Some svg) None None = Some (Some (Picture, svg))
+drawing_of None (Some html) None = Some (Some (Page, html))
+drawing_of None None (Some trace) = Some (Some (Trace, trace))
+drawing_of (Some svg) (Some html) trace = None
+drawing_of (Some svg) None (Some trace) = None
+drawing_of None (Some html) (Some trace) = None
+
+-- the drawing that the words ask for
+abbrev pub drawing_in : List (List ℕ) → Option (Option (Form × List ℕ))
+drawing_in words =
+    drawing_of (option_value_in (codes "--svg") words) (option_value_in (codes "--html") words) (option_value_in (codes "--trace") words)
+
+-- the lines and the thread that the words ask for
+abbrev pub narrowed_in : List (List ℕ) → Option (Option (ℕ × ℕ) × Option ℕ)
+narrowed_in words = both (told line_range_in (option_value_in (codes "--lines") words)) (told caller_of (option_value_in (codes "--thread") words))
+
 abbrev pub timeline_in : List ℕ → List (List ℕ) → Option LookAsked
 timeline_in file words =
-    option_map (λ narrowed. AskedTimeline file narrowed.0 (option_value_in (codes "--object") words) narrowed.1 (option_value_in (codes "--svg") words))
-    (both (told line_range_in (option_value_in (codes "--lines") words)) (told caller_of (option_value_in (codes "--thread") words)))
+    option_map (λ asked. AskedTimeline file asked.0.0 (option_value_in (codes "--object") words) asked.0.1 asked.1)
+    (both (narrowed_in words) (drawing_in words))
 
 -- how many states may be met
 abbrev pub most_of : List ℕ → Option ℕ

@@ -12,16 +12,20 @@ command_of word =
     else if bytes_eq word (codes "explore") then Some Explore
     else None
 
+-- whether the option names a file to be drawn into
+abbrev pub is_drawing : List ℕ → Bool
+is_drawing option = bytes_eq option (codes "--svg") || bytes_eq option (codes "--html") || bytes_eq option (codes "--trace")
+
 -- whether the command has this option
 abbrev pub has_option : Command → List ℕ → Bool
 has_option Why option = bytes_eq option (codes "--at")
-has_option Timeline option = bytes_eq option (codes "--lines") || bytes_eq option (codes "--object") || bytes_eq option (codes "--thread") || bytes_eq option (codes "--svg")
+has_option Timeline option = bytes_eq option (codes "--lines") || bytes_eq option (codes "--object") || bytes_eq option (codes "--thread") || is_drawing option
 has_option Explore option = bytes_eq option (codes "--most")
 
 -- the line that tells how the command is called
 abbrev pub usage_of : Command → List ℕ
 usage_of Why = codes "ntlook: usage: ntlook why FILE [--at LINE]\n"
-usage_of Timeline = codes "ntlook: usage: ntlook timeline FILE [--lines A..B] [--object NAME] [--thread tN] [--svg OUT]\n"
+usage_of Timeline = codes "ntlook: usage: ntlook timeline FILE [--lines A..B] [--object NAME] [--thread tN] [--svg OUT | --html OUT | --trace OUT]\n"
 usage_of Explore = codes "ntlook: usage: ntlook explore FILE [--most STATES]   (1 to 4000000000; 1000000 if left out)\n"
 
 -- the same of all commands

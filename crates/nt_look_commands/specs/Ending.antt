@@ -2,7 +2,9 @@
 use Rattle.std.specs.Prelude.{◌≡◌, ◌⊎◌, ℕ, List, Option, None, Some, Result, Ok, Err}
 use Rattle.nt_devices.specs.Device.{Says, Writing}
 use Rattle.nt_hangs.specs.Ending.{FileTold, SaysMemory}
-use Rattle.nt_timeline.specs.Ending.{PictureEnds, TimelineTold}
+use Rattle.nt_drawing.specs.declared.draw.Form.{Form}
+use Rattle.nt_drawing.specs.Ending.{DrawingEnds}
+use Rattle.nt_timeline.specs.Ending.{TimelineTold}
 use Rattle.nt_orders.specs.Ending.{OrdersTold}
 use Rattle.nt_look_commands.specs.declared.command.Command.{Command}
 use Rattle.nt_look_commands.specs.Commands.{look_usage, usage_of}
@@ -20,10 +22,10 @@ PrintTimeline errors errors' status =
     SaysMemory errors errors' status
     ⊎ ((writer writer' : Writing) × TimelineTold writer writer' errors errors' status)
 
--- The timeline is text, or a picture where a file is told for it.
-abbrev pub MakesTimeline : Option (List ℕ) → (errors errors' : Writing) → (status : ℕ) → Type 0
+-- The timeline is text, or a drawing where a file is named for it.
+abbrev pub MakesTimeline : Option (Form × List ℕ) → (errors errors' : Writing) → (status : ℕ) → Type 0
 MakesTimeline None errors errors' status = PrintTimeline errors errors' status
-MakesTimeline (Some out) errors errors' status = PictureEnds errors errors' status
+MakesTimeline (Some drawing) errors errors' status = DrawingEnds errors errors' status
 
 -- It is said that memory ran out; or it was told of the orders of a file, to some writer.
 abbrev pub PrintOrders : (errors errors' : Writing) → (status : ℕ) → Type 0
@@ -40,5 +42,5 @@ usage_for (Some command) = usage_of command
 abbrev pub CommandEnds : Result LookAsked (Option Command) → (errors errors' : Writing) → (status : ℕ) → Type 0
 CommandEnds (Err command) errors errors' status = Says errors errors' (usage_for command) × (status ≡ 2)
 CommandEnds (Ok (AskedWhy file at)) errors errors' status = PrintTold file at errors errors' status
-CommandEnds (Ok (AskedTimeline file lines object thread svg)) errors errors' status = MakesTimeline svg errors errors' status
+CommandEnds (Ok (AskedTimeline file lines object thread drawing)) errors errors' status = MakesTimeline drawing errors errors' status
 CommandEnds (Ok (AskedExplore file most)) errors errors' status = PrintOrders errors errors' status

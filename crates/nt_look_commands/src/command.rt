@@ -1,6 +1,6 @@
 //! The commands, with the options and the usage line of each.
 ghost use Rattle.std.specs.Prelude.{◌≡◌};
-ghost use Rattle.nt_look_commands.specs.Commands.{command_of, has_option, usage_of};
+ghost use Rattle.nt_look_commands.specs.Commands.{command_of, has_option, is_drawing, usage_of};
 ghost use Rattle.nt_look_commands.specs.declared.command.Command.TheVariants.{Timeline};
 
 /// A command of the program.
@@ -29,11 +29,18 @@ pub(crate) fn command_of(word: &str) -> Option<Command>
     }
 }
 
+/// Whether the option names a file to be drawn into.
+fn is_drawing(option: &str) -> bool
+    ensures { result ≡ is_drawing option.now }
+{
+    option == "--svg" || option == "--html" || option == "--trace"
+}
+
 /// Whether it is an option of `ntlook timeline`.
 fn is_of_timeline(option: &str) -> bool
     ensures { result ≡ has_option Timeline option.now }
 {
-    option == "--lines" || option == "--object" || option == "--thread" || option == "--svg"
+    option == "--lines" || option == "--object" || option == "--thread" || is_drawing(option)
 }
 
 impl Command {
@@ -55,7 +62,7 @@ impl Command {
         match self {
             Command::Why => b"ntlook: usage: ntlook why FILE [--at LINE]\n",
             Command::Timeline => {
-                b"ntlook: usage: ntlook timeline FILE [--lines A..B] [--object NAME] [--thread tN] [--svg OUT]\n"
+                b"ntlook: usage: ntlook timeline FILE [--lines A..B] [--object NAME] [--thread tN] [--svg OUT | --html OUT | --trace OUT]\n"
             }
             Command::Explore => {
                 b"ntlook: usage: ntlook explore FILE [--most STATES]   (1 to 4000000000; 1000000 if left out)\n"

@@ -1,21 +1,21 @@
 //! What is done with the words of a command line.
-ghost use Rattle.std.specs.Prelude.{◌≡◌, map, string_bytes};
-ghost use Rattle.nt_look_commands.specs.CommandLine.{look_asked, look_of};
+ghost use Rattle.std.specs.Prelude.{◌≡◌, map, option_map, string_bytes};
+ghost use Rattle.nt_look_commands.specs.CommandLine.{drawing_asked, look_asked, look_of};
 ghost use Rattle.nt_look_commands.specs.Ending.{CommandEnds, MakesTimeline, PrintOrders, PrintTimeline, PrintTold, usage_for};
-ghost use Rattle.std.specs.Option.{option_copied};
 
 use crate::command::Command;
 use crate::look::{Look, look_of};
 use nt_devices::{Counted, Sink};
+use nt_drawing::{Drawing, draw_file};
 use nt_hangs::{lacks_memory, say, why_file};
 use nt_orders::explore_file;
-use nt_timeline::{Part, picture_file, timeline_file};
+use nt_timeline::{Part, timeline_file};
 use std::io::{self, BufWriter, Print};
 use std::rt::Files;
 
 /// The usage of all commands.
 const USAGE: &[u8] = b"ntlook: usage: ntlook why FILE [--at LINE]
-ntlook: usage: ntlook timeline FILE [--lines A..B] [--object NAME] [--thread tN] [--svg OUT]
+ntlook: usage: ntlook timeline FILE [--lines A..B] [--object NAME] [--thread tN] [--svg OUT | --html OUT | --trace OUT]
 ntlook: usage: ntlook explore FILE [--most STATES]   (1 to 4000000000; 1000000 if left out)
 ";
 
@@ -74,18 +74,18 @@ fn usage_for(command: Option<Command>) -> &'static [u8]
     }
 }
 
-/// Writes the timeline of this file's script: to standard output, or as a picture into the file `svg`. Answers the exit status.
+/// Writes the timeline of this file's script: to standard output, or as a drawing into a file. Answers the exit status.
 fn make_timeline<R: Files + AllocGlobal + Print, E: Sink>(
     rt: &R,
     path: &str,
     part: &Part<'_>,
-    svg: Option<&str>,
+    drawing: Option<Drawing<'_>>,
     errors: &mut E,
 ) -> u8
-    ensures { MakesTimeline (option_copied svg.entry) (E.seen errors.old) (E.seen errors.new) result }
+    ensures { MakesTimeline (option_map drawing_asked drawing.entry) (E.seen errors.old) (E.seen errors.new) result }
 {
-    match svg {
-        Some(out) => picture_file(rt, path, part, out, errors),
+    match drawing {
+        Some(drawing) => draw_file(rt, path, part, drawing, errors),
         None => print_timeline(rt, path, part, errors),
     }
 }
@@ -96,7 +96,11 @@ fn take_look<R: Files + AllocGlobal + Print, E: Sink>(rt: &R, look: Look<'_>, er
 {
     match look {
         Look::Why { file, at } => print_why(rt, file, at, errors),
-        Look::Timeline { file, part, svg } => make_timeline(rt, file, &part, svg, errors),
+        Look::Timeline {
+            file,
+            part,
+            drawing,
+        } => make_timeline(rt, file, &part, drawing, errors),
         Look::Explore { file, most } => print_orders(rt, file, most, errors),
     }
 }

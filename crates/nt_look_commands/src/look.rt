@@ -1,11 +1,12 @@
 //! What a command line asks for.
-ghost use Rattle.std.specs.Prelude.{◌≡◌, ◌<◌, None, Some, IfSome, length, position, MatchOption, MatchResult, codes, map, string_bytes};
-ghost use Rattle.nt_look_commands.specs.CommandLine.{asked_after, after_dots, look_asked, both, explore_in, is_dot, line_number_in, line_range_in, look_of, most_in, most_of, timeline_in, told, option_value_in, why_in};
+ghost use Rattle.std.specs.Prelude.{◌≡◌, ◌<◌, None, Some, IfSome, length, option_map, position, MatchOption, MatchResult, codes, map, string_bytes};
+ghost use Rattle.nt_look_commands.specs.CommandLine.{asked_after, drawing_asked, drawing_in, after_dots, look_asked, both, explore_in, is_dot, line_number_in, line_range_in, look_of, most_in, most_of, timeline_in, told, option_value_in, why_in};
 ghost use Rattle.nt_lines.specs.Words.{caller_of};
 ghost use Rattle.nt_look_commands.specs.Looks.{FindsLook};
 
 use crate::command::{Command, command_of};
 use crate::words::{are_lawful, file_in, value_in};
+use nt_drawing::{Drawing, Form};
 use nt_lines::{MAX_DIGITS, caller_of, number_of};
 use nt_timeline::Part;
 
@@ -23,11 +24,11 @@ pub enum Look<'a> {
         file: &'a str,
         at: Option<u64>,
     },
-    /// Write a part of the timeline of the script in this file: as text, or as a picture into another file.
+    /// Write a part of the timeline of the script in this file: as text, or as a drawing into another file.
     Timeline {
         file: &'a str,
         part: Part<'a>,
-        svg: Option<&'a str>,
+        drawing: Option<Drawing<'a>>,
     },
     /// Explore the orders of the lines of the script in this file, until so many states are met.
     Explore {
@@ -135,20 +136,49 @@ fn thread_in(words: &[String]) -> Option<Option<u32>>
     }
 }
 
+/// The drawing that the words ask for; `Some(None)` where there is none. None where they ask for two.
+fn drawing_in(words: &[String]) -> Option<Option<Drawing<'_>>>
+    ensures { option_map (option_map drawing_asked) result ≡ drawing_in (map string_bytes words.now) }
+{
+    match (
+        value_in("--svg", words),
+        value_in("--html", words),
+        value_in("--trace", words),
+    ) {
+        (None, None, None) => Some(None),
+        (Some(out), None, None) => Some(Some(Drawing {
+            form: Form::Picture,
+            out,
+        })),
+        (None, Some(out), None) => Some(Some(Drawing {
+            form: Form::Page,
+            out,
+        })),
+        (None, None, Some(out)) => Some(Some(Drawing {
+            form: Form::Trace,
+            out,
+        })),
+        _ => None,
+    }
+}
+
 /// `ntlook timeline`
 fn timeline_in<'a>(file: &'a str, words: &'a [String]) -> Option<Look<'a>>
     ensures { FindsLook (timeline_in file.now (map string_bytes words.now)) result }
 {
-    match (lines_in(words), thread_in(words)) {
-        (Some(lines), Some(thread)) => {
+    match (lines_in(words), thread_in(words), drawing_in(words)) {
+        (Some(lines), Some(thread), Some(drawing)) => {
             let object = value_in("--object", words);
-            let svg = value_in("--svg", words);
             let part = Part {
                 lines,
                 object,
                 thread,
             };
-            Some(Look::Timeline { file, part, svg })
+            Some(Look::Timeline {
+                file,
+                part,
+                drawing,
+            })
         }
         _ => None,
     }

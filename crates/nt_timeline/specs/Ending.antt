@@ -8,7 +8,7 @@ use Rattle.nt_script.specs.declared.fault.RunFault.{RunFault}
 use Rattle.nt_script.specs.declared.fault.RunFault.TheVariants.{Script, Read, Write, Memory}
 use Rattle.nt_hangs.specs.declared.reports.Report.{Report}
 use Rattle.nt_hangs.specs.Watching.{before_zero, unseen, Seen, SeesAll, StopsAt}
-use Rattle.nt_hangs.specs.Ending.{SaysMemory, Shows, TellsReport, TellsFault}
+use Rattle.nt_hangs.specs.Ending.{SaysMemory, TellsReport}
 
 -- These lines were carried out, one after another.
 abbrev pub AreCarriedOut : List (List ℕ) → Type 0
@@ -41,35 +41,3 @@ pub record TimelineTold (writer writer' errors errors' : Writing) (status : ℕ)
   pub either :
       (Says errors errors' (codes "ntlook: cannot open\n") × (status ≡ 1) × Keeps writer.held writer'.held × (writer'.failed ≡ writer.failed))
       ⊎ ((reader reader' : Reading) × TimelineEnds reader reader' writer writer' errors errors' status)
-
--- A line is said, and the exit status is 1.
-abbrev pub TimelineFails : List ℕ → (errors errors' : Writing) → (status : ℕ) → Type 0
-TimelineFails line errors errors' status = Says errors errors' line × (status ≡ 1)
-
--- A picture was handed on to a new file, or was not, and that is said.
-abbrev pub Draws : (errors errors' : Writing) → (status : ℕ) → Type 0
-Draws errors errors' status =
-    (text : List ℕ) × (writer writer' : Writing) × Shows text 0 writer writer' errors errors' status
-
--- A picture was drawn; or it is said that its file can't be created.
-abbrev pub Creates : (errors errors' : Writing) → (status : ℕ) → Type 0
-Creates errors errors' status = Draws errors errors' status ⊎ TimelineFails (codes "ntlook: cannot create\n") errors errors' status
-
--- A picture was drawn, or it is said that its file can't be created; or it is said why there is no picture.
-abbrev pub CreatesOrTells : Result Report RunFault → (errors errors' : Writing) → (status : ℕ) → Type 0
-CreatesOrTells (Ok picture) errors errors' status = Creates errors errors' status
-CreatesOrTells (Err fault) errors errors' status = TellsFault fault errors errors' status
-
--- The same of the script in these bytes.
-pub record DrawsInput (input : List ℕ) (errors errors' : Writing) (status : ℕ) : Type 0 where
-  pub outcome : Result Report RunFault
-  pub is : IsOutcome (lines_of (before_zero input)) outcome
-  pub tells : CreatesOrTells outcome errors errors' status
-
--- The same of some bytes; or it is said that the file can't be opened, the read failed, or memory ran out.
-pub record PictureEnds (errors errors' : Writing) (status : ℕ) : Type 0 where
-  pub either :
-      ((input : List ℕ) × DrawsInput input errors errors' status)
-      ⊎ (TimelineFails (codes "ntlook: cannot open\n") errors errors' status
-      ⊎ (TimelineFails (codes "ntlook: read failed\n") errors errors' status
-      ⊎ SaysMemory errors errors' status))

@@ -69,7 +69,7 @@ pub(crate) fn answer_in(said: &[u8]) -> &[u8] {
 }
 
 /// How a wait ended, by name. That of the first object has no number after it.
-pub(crate) fn name_of(alloc: Global, status: Status) -> Result<Vec<u8>, AllocError> {
+pub fn name_of(alloc: Global, status: Status) -> Result<Vec<u8>, AllocError> {
     let name = format!(in alloc; "{status}")?;
     let name = name.as_bytes();
     Vec::from_slice(alloc, name.strip_suffix(b"+0").unwrap_or(name))

@@ -15,14 +15,14 @@ use std::alloc::{AllocError, Global};
 
 /// A script that is run, and what is kept of it.
 #[derive(Drop)]
-pub(crate) struct Film {
+pub struct Film {
     pub watch: Watch,
     pub kept: Kept,
 }
 
 impl Film {
     /// Nothing is run yet.
-    pub(crate) fn new(alloc: Global, is_drawn: bool) -> Result<Film, AllocError>
+    pub fn new(alloc: Global, is_drawn: bool) -> Result<Film, AllocError>
         ensures { IfOk result (λ film. seen_of film.watch ≡ unseen) }
     {
         Ok(Film {
@@ -105,7 +105,7 @@ impl Film {
     }
 
     /// The same, and that there is a `threads` line among them.
-    pub(crate) fn run(
+    pub fn run(
         &mut self,
         alloc: Global,
         input: &[u8],

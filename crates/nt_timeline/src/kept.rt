@@ -12,7 +12,7 @@ use std::alloc::{AllocError, Global};
 
 /// What is kept of a run.
 #[derive(Drop)]
-pub(crate) struct Kept {
+pub struct Kept {
     /// Whether what a picture shows is kept too.
     is_drawn: bool,
     pub changes: Vec<Change>,
@@ -233,7 +233,7 @@ impl Kept {
     }
 
     /// The place of the step that began the thread's pending wait.
-    pub(crate) fn began_at(&self, thread: u32) -> usize {
+    pub fn began_at(&self, thread: u32) -> usize {
         match self.began.get(thread as usize) {
             Some(place) => *place,
             None => 0,

@@ -8,7 +8,7 @@ use std::alloc::{AllocError, Global};
 
 /// What a word that names an object stands for.
 #[derive(Clone, Copy)]
-pub(crate) struct Words<'a> {
+pub struct Words<'a> {
     pub session: &'a Session,
     /// By the places of names, the numbers of the objects that they were given to.
     pub objects: &'a [u32],
@@ -30,6 +30,18 @@ fn put_handle(out: &mut Vec<u8>, words: Words<'_>, number: u32) -> Result<(), Al
             put_number(out, u64::from(number))
         }
     }
+}
+
+/// Puts the name of the object with this number, or what the comments call it.
+pub fn put_object(
+    alloc: Global,
+    out: &mut Vec<u8>,
+    words: Words<'_>,
+    object: u32,
+) -> Result<(), AllocError> {
+    let mut name = Vec::new(alloc);
+    put_object_name(&mut name, words.session, words.objects, object)?;
+    put_called(out, words.told, &name)
 }
 
 /// Puts what an object's word stands for: a name or a thread as it is or as it is called, a handle by what it names.

@@ -36,7 +36,7 @@ impl Part<'_> {
     }
 
     /// Whether a step, which ended these waits, is shown.
-    pub(crate) fn shows(&self, step: &Step, ended: &[Ended]) -> bool {
+    pub fn shows(&self, step: &Step, ended: &[Ended]) -> bool {
         self.has_line(step.line) && self.has_thread(step, ended) && self.has_object(step, ended)
     }
 }

@@ -5,7 +5,7 @@ use nt_status::Status;
 
 /// How a call was answered.
 #[derive(Clone, Copy, Debug, PartialEq, Eq)]
-pub(crate) enum Kind {
+pub enum Kind {
     /// It is a tick.
     Tick,
     /// It was accepted.
@@ -20,7 +20,7 @@ pub(crate) enum Kind {
 
 /// A line that calls or ticks.
 #[derive(Drop)]
-pub(crate) struct Step {
+pub struct Step {
     pub line: u64,
     /// The thread that calls; none of a tick.
     pub who: Option<u32>,
@@ -39,7 +39,7 @@ pub(crate) struct Step {
 
 /// An object that a step left otherwise than it was.
 #[derive(Clone, Copy, Debug)]
-pub(crate) struct Change {
+pub struct Change {
     /// The place of its name.
     pub place: usize,
     /// The place of the step.
@@ -49,7 +49,7 @@ pub(crate) struct Change {
 
 /// The end of a wait that pended.
 #[derive(Drop)]
-pub(crate) struct Ended {
+pub struct Ended {
     pub thread: u32,
     pub status: Status,
     /// The place of the step that began the wait, and its line.
@@ -61,7 +61,7 @@ pub(crate) struct Ended {
 
 impl Step {
     /// The waits that the step ended.
-    pub(crate) fn ended<'a>(&self, all: &'a [Ended]) -> &'a [Ended] {
+    pub fn ended<'a>(&self, all: &'a [Ended]) -> &'a [Ended] {
         all.get(self.ended.0..self.ended.1).unwrap_or(&[])
     }
 }

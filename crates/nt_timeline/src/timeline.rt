@@ -2,11 +2,10 @@
 ghost use Rattle.std.specs.Prelude.{◌≡◌, IfOk};
 ghost use Rattle.nt_lines.specs.Lines.{lines_of};
 ghost use Rattle.nt_hangs.specs.Watching.{before_zero, seen_of, unseen};
-ghost use Rattle.nt_timeline.specs.Ending.{Creates, DrawsInput, IsOutcome, PictureEnds, TellsTimeline, TimelineEnds, TimelineTold};
+ghost use Rattle.nt_timeline.specs.Ending.{IsOutcome, TellsTimeline, TimelineEnds, TimelineTold};
 
 use crate::film::Film;
 use crate::part::Part;
-use crate::picture::picture_of;
 use crate::rows::put_rows;
 use nt_devices::{Counted, Sink, Source};
 use nt_hangs::{
@@ -18,14 +17,6 @@ use nt_script::{RunFault, Session};
 use std::alloc::{AllocError, Global};
 use std::fs;
 use std::rt::Files;
-
-/// How a timeline is written.
-#[derive(Clone, Copy, Debug, PartialEq, Eq)]
-pub enum Form {
-    Text,
-    /// As an SVG.
-    Picture,
-}
 
 /// The timeline of what is kept of a session, after so many lines.
 fn text_of(
@@ -55,18 +46,13 @@ impl Film {
         alloc: Global,
         file: &[u8],
         count: u64,
-        form: Form,
         part: &Part<'_>,
     ) -> Result<Report, AllocError>
         ensures { IfOk result (λ report. report.code ≡ 0) }
     {
-        match (self.watch.session(), form) {
-            (Some(session), Form::Text) => text_of(alloc, file, count, self, session, part),
-            (Some(session), Form::Picture) => Ok(Report {
-                text: picture_of(alloc, file, self, session, part)?,
-                code: 0,
-            }),
-            (None, _) => Err(AllocError),
+        match self.watch.session() {
+            Some(session) => text_of(alloc, file, count, self, session, part),
+            None => Err(AllocError),
         }
     }
 
@@ -76,7 +62,6 @@ impl Film {
         alloc: Global,
         file: &[u8],
         input: &[u8],
-        form: Form,
         part: &Part<'_>,
     ) -> Result<Report, RunFault>
         requires { seen_of self.old.watch ≡ unseen }
@@ -86,7 +71,7 @@ impl Film {
             Ok(count) => count,
             Err(fault) => return Err(fault),
         };
-        match self.report(alloc, file, count, form, part) {
+        match self.report(alloc, file, count, part) {
             Ok(report) => Ok(report),
             Err(_) => Err(RunFault::Memory { line: count }),
         }
@@ -100,14 +85,13 @@ pub fn timeline_on(
     alloc: Global,
     file: &[u8],
     input: &[u8],
-    form: Form,
     part: &Part<'_>,
 ) -> Result<Report, RunFault>
     ensures { IsOutcome (lines_of (before_zero input.now)) result }
 {
-    match Film::new(alloc, form == Form::Picture) {
+    match Film::new(alloc, false) {
         Ok(mut film) => {
-            let answer = film.play(alloc, file, before_zero(input), form, part);
+            let answer = film.play(alloc, file, before_zero(input), part);
             drop(film);
             answer
         }
@@ -126,7 +110,7 @@ fn timeline_input<W: Sink, E: Sink>(
 ) -> u8
     ensures { TellsTimeline input.now (W.seen writer.old) (W.seen writer.new) (E.seen errors.old) (E.seen errors.new) result }
 {
-    match timeline_on(alloc, file, input, Form::Text, part) {
+    match timeline_on(alloc, file, input, part) {
         Ok(report) => show(&report, writer, errors),
         Err(fault) => tell(alloc, fault, errors),
     }
@@ -174,54 +158,5 @@ pub fn timeline_file<F: Files + AllocGlobal, W: Sink, E: Sink>(
             errors,
         ),
         Err(_) => say(errors, b"ntlook: cannot open\n", 1),
-    }
-}
-
-/// Creates the file, and writes the picture into it; 1 where either fails, which is said on `errors`.
-fn write_picture<F: Files, E: Sink>(files: &F, out: &str, picture: &Report, errors: &mut E) -> u8
-    requires { picture.now.code ≡ 0 }
-    ensures { Creates (E.seen errors.old) (E.seen errors.new) result }
-{
-    match fs::create(files, out) {
-        Ok(file) => show(picture, &mut Counted::new(file), errors),
-        Err(_) => say(errors, b"ntlook: cannot create\n", 1),
-    }
-}
-
-/// Draws the script in these bytes into the file `out`.
-fn draw_input<F: Files + AllocGlobal, E: Sink>(
-    files: &F,
-    file: &[u8],
-    input: &[u8],
-    part: &Part<'_>,
-    out: &str,
-    errors: &mut E,
-) -> u8
-    ensures { DrawsInput input.now (E.seen errors.old) (E.seen errors.new) result }
-{
-    match timeline_on(files.alloc(), file, input, Form::Picture, part) {
-        Ok(picture) => write_picture(files, out, &picture, errors),
-        Err(fault) => tell(files.alloc(), fault, errors),
-    }
-}
-
-/// Runs the script in the file at `path`, and draws the timeline of a part of it into the file `out`, which is created once all is read and run.
-/// Answers the exit status as [`timeline_over`] does; 1 too where a file can't be opened or created, which is said on `errors`.
-pub fn picture_file<F: Files + AllocGlobal, E: Sink>(
-    files: &F,
-    path: &str,
-    part: &Part<'_>,
-    out: &str,
-    errors: &mut E,
-) -> u8
-    ensures { PictureEnds (E.seen errors.old) (E.seen errors.new) result }
-{
-    match fs::open(files, path) {
-        Ok(file) => match read_whole(files.alloc(), &mut Counted::new(file)) {
-            Ok(input) => draw_input(files, path.as_bytes(), input.as_slice(), part, out, errors),
-            Err(InputFault::Failed) => say(errors, b"ntlook: read failed\n", 1),
-            Err(InputFault::Memory) => lacks_memory(errors),
-        },
-        Err(_refused) => say(errors, b"ntlook: cannot open\n", 1),
     }
 }

@@ -7,15 +7,24 @@ use nt_faults::{Told, explain, told_by};
 use nt_look_commands::{Look, carry_out, lacks_memory, look_of};
 use std::alloc::AllocError;
 use std::env::{self, Env};
-use std::io::Print;
+use std::io::{ErrorKind, Print};
 use std::process::ExitCode;
 use std::rt::Files;
 
-/// The words of the command line, the program's own name first.
+/// The words of the command line, the program's own name first. If one is not UTF-8 none is answered, and no words are a fault of usage.
 fn words<R: AllocGlobal + Env>(rt: &R) -> Result<Vec<String>, AllocError> {
     let mut words = Vec::new(rt.alloc());
-    for word in env::args(rt).map_err(|_| AllocError)? {
-        words.push(word)?;
+    match env::args(rt) {
+        Ok(args) => {
+            for word in args {
+                words.push(word)?;
+            }
+        }
+        Err(error) => {
+            if error.kind() != ErrorKind::InvalidData {
+                return Err(AllocError);
+            }
+        }
     }
     Ok(words)
 }

@@ -1,15 +1,15 @@
 //! The rows of a picture that tell of the objects, each whose it was, or which count it had, or whether it was set.
 
-use crate::escape::{put_escaped, put_text, width_of};
-use crate::kept::Kept;
-use crate::labels::Words;
+use crate::escape::{put_cut, put_escaped, put_text, width_of};
 use crate::layout::{Layout, at};
 use crate::marks::put_raw;
-use crate::part::Part;
-use crate::steps::Change;
 use nt_hangs::{called_by, put_number, put_signed};
 use nt_objects::{Armed, Object};
+use nt_timeline::{Change, Kept, Part, Words};
 use std::alloc::{AllocError, Global};
+
+/// The longest name that is shown whole, in bytes.
+const LONGEST: usize = 40;
 
 /// How high a row is, in pixels.
 pub(crate) const ROW: u32 = 26;
@@ -255,12 +255,12 @@ pub(crate) fn put_row(
         None => b"",
     };
     let base = y.saturating_add(14);
-    put_text(alloc, out, "object", 20, base, name)?;
+    put_cut(alloc, out, "object", (20, base), name, LONGEST)?;
     put_text(
         alloc,
         out,
         "kind",
-        width_of(name.len(), 12).saturating_add(24),
+        width_of(name.len().min(LONGEST), 12).saturating_add(24),
         base,
         kind,
     )?;
@@ -291,7 +291,7 @@ pub(crate) fn put_row(
     }
 }
 
-/// How far to the right the names of the objects reach, and those of the threads.
+/// How far to the right the names of the objects reach.
 pub(crate) fn left_of(kept: &Kept, words: Words<'_>) -> u32 {
     let mut left: u32 = 150;
     for place in 0..words.objects.len() {
@@ -299,7 +299,8 @@ pub(crate) fn left_of(kept: &Kept, words: Words<'_>) -> u32 {
             Some(object) => kind_of(&object).len(),
             None => 0,
         };
-        let width = width_of(name_at(words, place).len(), 12).saturating_add(width_of(kind, 10));
+        let name = name_at(words, place).len().min(LONGEST);
+        let width = width_of(name, 12).saturating_add(width_of(kind, 10));
         left = left.max(width.saturating_add(44));
     }
     left

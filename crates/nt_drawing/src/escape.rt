@@ -51,6 +51,42 @@ pub(crate) fn end_group(out: &mut Vec<u8>) -> Result<(), AllocError> {
     out.extend_from_slice(b"</g>\n")
 }
 
+/// The text, or as much of it as these bytes hold with two dots at its end.
+pub(crate) fn shortened(alloc: Global, text: &[u8], most: usize) -> Result<Vec<u8>, AllocError> {
+    match text.get(..most.saturating_sub(2)) {
+        Some(front) if text.len() > most => {
+            let mut cut = Vec::from_slice(alloc, front)?;
+            cut.extend_from_slice(b"..")?;
+            Ok(cut)
+        }
+        _ => Vec::from_slice(alloc, text),
+    }
+}
+
+/// Puts text at this place, cut to these bytes. The whole of a text that is cut is its title.
+pub(crate) fn put_cut(
+    alloc: Global,
+    out: &mut Vec<u8>,
+    class: &str,
+    (x, y): (u32, u32),
+    text: &[u8],
+    most: usize,
+) -> Result<(), AllocError> {
+    if text.len() <= most {
+        return put_text(alloc, out, class, x, y, text);
+    }
+    out.extend_from_slice(b"<g><title>")?;
+    put_escaped(out, text)?;
+    out.extend_from_slice(b"</title>")?;
+    put_text(alloc, out, class, x, y, &shortened(alloc, text, most)?)?;
+    out.extend_from_slice(b"</g>\n")
+}
+
+/// About how many bytes of text, at this size, are as wide as these pixels.
+pub(crate) fn bytes_in(pixels: u32, size: u32) -> usize {
+    (pixels.saturating_sub(6).saturating_mul(25) / size.saturating_mul(14).max(1)) as usize
+}
+
 /// About how many pixels wide a text of so many bytes is, at this size.
 pub(crate) fn width_of(bytes: usize, size: u32) -> u32 {
     let units = (bytes.min(4096) as u32).saturating_mul(size);

@@ -1,13 +1,13 @@
 //! Where in a picture what stands: each shown step as far to the right as its texts need.
 
-use crate::answers::name_of;
 use crate::escape::width_of;
-use crate::kept::Kept;
-use crate::part::Part;
-use crate::steps::{Ended, Kind, Step};
-use crate::waiting::MOST_THREADS;
 use nt_core::Core;
+use nt_status::MAX_THREADS;
+use nt_timeline::{Ended, Kept, Kind, Part, Step, name_of};
 use std::alloc::{AllocError, Global};
+
+/// The greatest number of threads, each of which has a place.
+const MOST_THREADS: usize = MAX_THREADS as usize;
 
 /// How high a lane is, in pixels, and how far down the first begins.
 pub(crate) const LANE: u32 = 60;

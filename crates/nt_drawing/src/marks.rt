@@ -1,13 +1,14 @@
 //! The marks of a picture: lanes, waits, arrows and calls.
 
-use crate::answers::{cut, name_of};
-use crate::escape::{begin_group, end_group, put_escaped, put_text};
-use crate::kept::Kept;
+use crate::escape::{begin_group, bytes_in, end_group, put_cut, put_text};
 use crate::layout::{LANE, Layout, TOP, at, below_of};
-use crate::steps::{Ended, Kind, Step};
-use nt_hangs::put_thread_title;
+use nt_hangs::called_by;
 use nt_status::Status;
+use nt_timeline::{Ended, Kept, Kind, Step, name_of};
 use std::alloc::{AllocError, Global};
+
+/// How far to the right a lane's name begins, in pixels.
+const NAME: u32 = 54;
 
 /// Puts text as it is.
 pub(crate) fn put_raw(out: &mut Vec<u8>, text: &str) -> Result<(), AllocError> {
@@ -68,10 +69,10 @@ pub(crate) fn put_lane(
             "<text class=\"thread\" x=\"31\" y=\"{base}\">t{thread}</text>\n"
         )?.as_str(),
     )?;
-    let mut title = Vec::new(alloc);
-    put_thread_title(&mut title, told, thread)?;
-    let (_, name) = cut(&title, b' ');
-    put_text(alloc, out, "kind", 54, base, name)
+    let word = format!(in alloc; "t{thread}")?;
+    let name = called_by(told, word.as_bytes()).unwrap_or(b"");
+    let room = left.saturating_sub(NAME + 8);
+    put_cut(alloc, out, "kind", (NAME, base), name, bytes_in(room, 10))
 }
 
 /// Puts the line that marks a tick over all lanes, and its moment.
@@ -95,13 +96,13 @@ fn put_tick(
     end_group(out)
 }
 
-/// Puts a wait that pended, from where it began to where it ended.
+/// Puts a wait that pended, from where it began to where it ended: how that was as a title, and what of it is shown.
 pub(crate) fn put_bar(
     alloc: Global,
     out: &mut Vec<u8>,
     class: &str,
     began: &Step,
-    how: &[u8],
+    (how, shown): (&[u8], &[u8]),
     (x, end, y): (u32, u32, u32),
 ) -> Result<(), AllocError> {
     let mut title = Vec::from_slice(alloc, &began.label)?;
@@ -128,16 +129,16 @@ pub(crate) fn put_bar(
             "open",
             end.saturating_sub(6),
             y.saturating_add(21),
-            how,
+            shown,
         )?;
-    } else if how != b"WAIT_OBJECT_0".as_slice() {
+    } else if shown != b"WAIT_OBJECT_0".as_slice() {
         put_text(
             alloc,
             out,
             "end",
             end.saturating_sub(4),
             y.saturating_add(20),
-            how,
+            shown,
         )?;
     }
     end_group(out)
@@ -163,7 +164,7 @@ fn put_end(
         out,
         class,
         began,
-        &how,
+        (&how, &how),
         (at(&layout.x, end.began), x, y),
     )?;
     let from = match step.who {
@@ -186,7 +187,47 @@ fn put_end(
     )
 }
 
-/// Puts the mark of a call: a cross for a refused one, a diamond for a wait that ended at once, else a dot.
+/// Puts the mark of a refused call.
+pub(crate) fn put_cross(
+    alloc: Global,
+    out: &mut Vec<u8>,
+    x: u32,
+    y: u32,
+) -> Result<(), AllocError> {
+    let (left, top) = (x.saturating_sub(5), y.saturating_sub(5));
+    put_raw(
+        out,
+        format!(in alloc;
+            "<path class=\"cross\" d=\"M{left} {top} l10 10 m0 -10 l-10 10\"/>\n"
+        )?.as_str(),
+    )
+}
+
+/// Puts the mark of a wait that ended at once.
+pub(crate) fn put_diamond(
+    alloc: Global,
+    out: &mut Vec<u8>,
+    x: u32,
+    y: u32,
+) -> Result<(), AllocError> {
+    let high = y.saturating_sub(7);
+    put_raw(
+        out,
+        format!(in alloc;
+            "<path class=\"diamond\" d=\"M{x} {high} l7 7 l-7 7 l-7 -7 z\"/>\n"
+        )?.as_str(),
+    )
+}
+
+/// Puts the mark of any other call.
+pub(crate) fn put_dot(alloc: Global, out: &mut Vec<u8>, x: u32, y: u32) -> Result<(), AllocError> {
+    put_raw(
+        out,
+        format!(in alloc; "<circle class=\"dot\" cx=\"{x}\" cy=\"{y}\" r=\"4.5\"/>\n")?.as_str(),
+    )
+}
+
+/// Puts the mark of a call.
 fn put_mark(
     alloc: Global,
     out: &mut Vec<u8>,
@@ -194,30 +235,10 @@ fn put_mark(
     x: u32,
     y: u32,
 ) -> Result<(), AllocError> {
-    let (left, top, high) = (
-        x.saturating_sub(5),
-        y.saturating_sub(5),
-        y.saturating_sub(7),
-    );
     match kind {
-        Kind::Refused => put_raw(
-            out,
-            format!(in alloc;
-                "<path class=\"cross\" d=\"M{left} {top} l10 10 m0 -10 l-10 10\"/>\n"
-            )?.as_str(),
-        ),
-        Kind::AtOnce(_) => put_raw(
-            out,
-            format!(in alloc;
-                "<path class=\"diamond\" d=\"M{x} {high} l7 7 l-7 7 l-7 -7 z\"/>\n"
-            )?.as_str(),
-        ),
-        _ => put_raw(
-            out,
-            format!(in alloc;
-                "<circle class=\"dot\" cx=\"{x}\" cy=\"{y}\" r=\"4.5\"/>\n"
-            )?.as_str(),
-        ),
+        Kind::Refused => put_cross(alloc, out, x, y),
+        Kind::AtOnce(_) => put_diamond(alloc, out, x, y),
+        _ => put_dot(alloc, out, x, y),
     }
 }
 

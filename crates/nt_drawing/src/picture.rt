@@ -1,16 +1,15 @@
 //! The timeline as a picture: lanes, time to the right, and below them the objects.
 
-use crate::escape::{put_escaped, put_text};
-use crate::film::Film;
-use crate::labels::Words;
-use crate::layout::{Layout, at};
-use crate::marks::{put_bar, put_before, put_behind, put_lane, put_raw};
-use crate::objects::{ROW, left_of, put_row, rows_of};
-use crate::part::Part;
+use crate::escape::{put_escaped, put_text, width_of};
+use crate::layout::{Layout, TOP};
+use crate::legend::{LEGEND, put_legend};
+use crate::marks::{put_before, put_behind, put_lane, put_raw};
+use crate::objects::{ROW, put_row, rows_of};
+use crate::pending::{BULGE, put_pending};
 use crate::style::STYLE;
 use nt_hangs::{code_of, last_moment, put_verdict};
 use nt_look::why;
-use nt_script::Session;
+use nt_timeline::{Film, Part, Words};
 use std::alloc::{AllocError, Global};
 
 /// Puts the head: the size, the style, the file's name and the verdict.
@@ -47,6 +46,29 @@ fn put_head(
     put_text(alloc, out, class, 16, 46, &text)
 }
 
+/// The width from which on a picture says how to narrow it, in pixels.
+const WIDE: u32 = 1200;
+
+/// Puts what the numbers over the lanes are, and how to narrow a wide picture.
+fn put_captions(
+    alloc: Global,
+    out: &mut Vec<u8>,
+    film: &Film,
+    file: &[u8],
+    width: u32,
+) -> Result<(), AllocError> {
+    put_text(alloc, out, "kind", 20, TOP - 6, b"line")?;
+    if film.kept.steps.iter().any(|step| step.who.is_none()) {
+        put_text(alloc, out, "kind", 20, TOP - 24, b"time, in 100 ns")?;
+    }
+    if width > WIDE {
+        let x = width_of(file.len(), 14).saturating_add(32);
+        let how = b"wide: --lines A..B, --thread tN or --object NAME shows a part";
+        put_text(alloc, out, "kind", x, 26, how)?;
+    }
+    Ok(())
+}
+
 /// Puts the lanes of the threads.
 fn put_lanes(
     alloc: Global,
@@ -56,32 +78,6 @@ fn put_lanes(
 ) -> Result<(), AllocError> {
     for (place, thread) in layout.lanes.iter().enumerate() {
         put_lane(alloc, out, layout, told, place, *thread)?;
-    }
-    Ok(())
-}
-
-/// Puts the waits that still pend.
-fn put_pending(
-    alloc: Global,
-    out: &mut Vec<u8>,
-    film: &Film,
-    layout: &Layout,
-    words: Words<'_>,
-) -> Result<(), AllocError> {
-    for thread in &layout.lanes {
-        if words.session.core().is_waiting(*thread) {
-            let began = film.kept.began_at(*thread);
-            if let (Some(step), Some(y)) = (film.kept.steps.get(began), layout.y(*thread)) {
-                put_bar(
-                    alloc,
-                    out,
-                    "pending",
-                    step,
-                    b"still waits",
-                    (at(&layout.x, began), layout.right, y),
-                )?;
-            }
-        }
     }
     Ok(())
 }
@@ -138,69 +134,28 @@ fn put_objects(
     Ok(())
 }
 
-/// What the colours mean.
-const LEGEND: [(&str, &str, u32); 5] = [
-    ("granted", "granted", 20),
-    ("abandoned", "granted, abandoned mutex", 120),
-    ("alerted", "ended for an APC", 310),
-    ("timed", "timed out", 450),
-    ("pending", "still waits", 550),
-];
-
-/// Puts what the colours mean.
-fn put_legend(alloc: Global, out: &mut Vec<u8>, base: u32) -> Result<(), AllocError> {
-    let top = base.saturating_sub(9);
-    for (class, text, x) in LEGEND {
-        put_raw(
-            out,
-            format!(in alloc;
-                "<g class=\"{class}\"><rect class=\"wait\" x=\"{x}\" y=\"{top}\" width=\"26\" height=\"10\" rx=\"5\"/></g>"
-            )?.as_str(),
-        )?;
-        put_text(
-            alloc,
-            out,
-            "legend",
-            x.saturating_add(32),
-            base,
-            text.as_bytes(),
-        )?;
-    }
-    Ok(())
-}
-
-/// The picture of a part of a session.
+/// The picture of the shown steps.
 pub(crate) fn picture_of(
     alloc: Global,
     file: &[u8],
     film: &Film,
-    session: &Session,
+    layout: &Layout,
+    words: Words<'_>,
     part: &Part<'_>,
 ) -> Result<Vec<u8>, AllocError> {
-    let words = Words {
-        session,
-        objects: film.watch.objects(),
-        told: film.watch.told(),
-    };
-    let layout = Layout::of(
-        alloc,
-        &film.kept,
-        part,
-        session.core(),
-        left_of(&film.kept, words),
-    )?;
-    let rows = rows_of(alloc, &film.kept, &layout, words, part)?;
+    let rows = rows_of(alloc, &film.kept, layout, words, part)?;
     let top = layout.end_of_lanes().saturating_add(34);
     let bottom = top.saturating_add((rows.len().min(65536) as u32).saturating_mul(ROW));
-    let height = bottom.saturating_add(64);
-    let width = layout.right.saturating_add(24).max(680);
+    let height = bottom.saturating_add(44 + LEGEND);
+    let width = layout.right.saturating_add(BULGE + 10).max(720);
     let mut out = Vec::new(alloc);
     put_head(alloc, &mut out, file, (width, height), words)?;
-    put_lanes(alloc, &mut out, &layout, words.told)?;
-    put_all_behind(alloc, &mut out, film, &layout, bottom)?;
-    put_pending(alloc, &mut out, film, &layout, words)?;
-    put_calls(alloc, &mut out, film, &layout)?;
-    put_objects(alloc, &mut out, film, &layout, words, &rows, top)?;
+    put_captions(alloc, &mut out, film, file, width)?;
+    put_lanes(alloc, &mut out, layout, words.told)?;
+    put_all_behind(alloc, &mut out, film, layout, bottom)?;
+    put_pending(alloc, &mut out, film, layout, words)?;
+    put_calls(alloc, &mut out, film, layout)?;
+    put_objects(alloc, &mut out, film, layout, words, &rows, top)?;
     put_legend(alloc, &mut out, height.saturating_sub(22))?;
     out.extend_from_slice(b"</svg>\n")?;
     Ok(out)
