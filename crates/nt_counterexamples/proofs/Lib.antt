@@ -1,0 +1,3 @@
+pub mod LockRuns
+pub mod ParkingRuns
+pub mod WordRuns

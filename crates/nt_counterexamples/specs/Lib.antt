@@ -1,0 +1,4 @@
+pub mod Lock
+pub mod Parking
+pub mod Runs
+pub mod Word

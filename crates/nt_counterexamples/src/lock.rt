@@ -1,0 +1,32 @@
+//! The lock that favours a thread, with one wrong step.
+ghost use Rattle.nt_counterexamples.specs.Lock.{WithoutBarriers, WithOneLook, WithoutWakeUpOfWhoRevoked, WithAWakeUpOwedInSleep, WithASleeperForgotten, AllAtOnce};
+
+/// If the favoured thread passes no barrier, two threads have the lock.
+pub fn without_barriers()
+    ensures { WithoutBarriers }
+{}
+
+/// If who was woken from a thread's `inside` does not look again, two threads have the lock.
+pub fn with_one_look()
+    ensures { WithOneLook }
+{}
+
+/// If who steps out wakes nobody, who has revoked its favour sleeps on.
+pub fn without_wake_up_of_who_revoked()
+    ensures { WithoutWakeUpOfWhoRevoked }
+{}
+
+/// If a handler's call sleeps on the lock before it has woken who sleeps on its thread's `inside`, both sleep for good.
+pub fn with_a_wake_up_owed_in_sleep()
+    ensures { WithAWakeUpOwedInSleep }
+{}
+
+/// If who was woken makes a free lock taken and not wanted, the second sleeper is forgotten.
+pub fn with_a_sleeper_forgotten()
+    ensures { WithASleeperForgotten }
+{}
+
+/// A run of the right protocol in which all that the laws speak of happens.
+pub fn all_at_once()
+    ensures { AllAtOnce }
+{}

@@ -1,0 +1,12 @@
+//! The word by which a thread learns of its grant, with one wrong step.
+ghost use Rattle.nt_counterexamples.specs.Word.{WithAGrantOverwritten, WithoutWakeUpOfWhoWasTold};
+
+/// If who looks at the time sets its word back though it was granted, the grant is lost.
+pub fn with_a_grant_overwritten()
+    ensures { WithAGrantOverwritten }
+{}
+
+/// If who tells a thread whose word is asleep does not wake it, it sleeps on.
+pub fn without_wake_up_of_who_was_told()
+    ensures { WithoutWakeUpOfWhoWasTold }
+{}

@@ -1,0 +1,4 @@
+pub mod Lock
+pub mod Parking
+pub mod Threads
+pub mod Word
