@@ -1,5 +1,6 @@
 """A copy of the launcher over sources of its own, and a kit that builds at once: for the tests of when the launcher builds, and what it says then."""
 import os
+import re
 import shutil
 import subprocess
 
@@ -17,6 +18,16 @@ def bytes_in(path):
         return b""
     with open(path, "rb") as file:
         return file.read()
+
+
+def said_of(bytes_said):
+    return [it for it in bytes_said.decode().splitlines() if not it.startswith(("./ntrun: ", "./ntlook: "))]
+
+
+def cells(path, beginning):
+    """The first cells of the rows of a page's table that begin so."""
+    with open(path, encoding="utf-8") as file:
+        return [[it.strip() for it in line.strip("| \n").split(" | ")] for line in file if re.match(beginning, line)]
 
 
 # A kit for the tests of building: it notes each of its runs, and the program that it builds is the shell, which takes its first word for the name of

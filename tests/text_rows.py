@@ -11,7 +11,7 @@ import shlex
 
 from rows import blocks_of, lines_of, unescaped
 
-MOST = 4096
+MOST, MOST_HANDLES = 4096, 65536
 NO_LF = "no LF at the end"
 
 
@@ -43,8 +43,17 @@ def filled(line, most):
     return begins + filling * times + b" " * gaps + ends
 
 
+def long_scripts():
+    """The scripts with lines that are filled up, and one that creates more events than there are handles: what each is, its bytes, and what is
+    written and said."""
+    yield from long_lines()
+    creations = "".join(f"t0 event e{it}\n" for it in range(1, MOST_HANDLES + 1))
+    answers = "".join(f"{it + 1}: handle {it}\n" for it in range(1, MOST_HANDLES))
+    # (the first of 65,536 handles is the thread's own)
+    yield "handles run out", f"threads 1\n{creations}".encode(), f"{answers}{MOST_HANDLES + 1}: error 536870919\nend: pending none\n", ""
+
+
 def long_lines():
-    """Each script with lines that are filled up: what it is, its bytes, and what is written and said."""
     for _, name, block in blocks_of("lines"):
         transcript, lines = text_after(">", block), script_of(block).splitlines(keepends=True)
         marked = [at for at, it in enumerate(lines) if b"{" in it]

@@ -1,11 +1,10 @@
-//! The crates below the dispatcher, and those of devices and lines: each call that takes memory succeeds if memory is there, which no contract
-//! says, and `tests/growths/tests` refuses it each of its allocations in turn. Also what no run of calls comes to.
-mod alarms;
+//! The crates below the dispatcher, and those of devices and lines: one walk makes each call that takes memory, which succeeds if memory is there.
+//! No contract says that. Also what no run of calls comes to.
 mod apcs;
 mod devices;
 mod lines;
+mod lists;
 mod marks;
 mod objects;
-mod statuses;
 mod tables;
 mod waits;

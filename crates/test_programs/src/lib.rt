@@ -10,8 +10,6 @@ mod devices;
 #[cfg(test)]
 mod expect;
 #[cfg(test)]
-mod long_lines;
-#[cfg(test)]
 mod refused;
 #[cfg(test)]
 mod scripts;

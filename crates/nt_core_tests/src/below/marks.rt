@@ -1,60 +1,65 @@
-//! Marks by place.
+//! Marks and alarms by place.
 
-use crate::expect::expect;
-use crate::tests::memory::{Host, tell_refused};
+use crate::expect::{expect, expect_equal};
+use crate::tests::memory::{Host, walk_at_last};
+use nt_alarms::Alarms;
 use nt_marks::Marks;
-use std::alloc::AllocError;
+use nt_status::Refusal;
 use std::test::Fail;
 
-/// This many places, none of them marked. If memory is refused, a second try goes on.
-fn unmarked(rt: &impl Host, places: usize) -> Result<Marks, AllocError> {
-    match Marks::with_places(rt.alloc(), places) {
-        Ok(marks) => Ok(marks),
-        Err(_) => {
-            tell_refused(rt, "the marks");
-            Marks::with_places(rt.alloc(), places)
-        }
-    }
-}
-
-/// Adds 100 places to both. If memory is refused, a second try goes on.
-fn add_many(rt: &impl Host, marks: &mut Marks, others: &mut Marks) -> Result<(), AllocError> {
+/// Adds a hundred places to both, and marks the last.
+fn mark(marks: &mut Marks, others: &mut Marks) -> Result<(), Refusal> {
     for _ in 0..100 {
-        if marks.add_both(others).is_err() {
-            tell_refused(rt, "a place in both");
-            marks.add_both(others)?;
-        }
+        marks.add_both(others)?;
+    }
+    others.add()?;
+    if marks.places() == 100 {
+        marks.set(99);
     }
     Ok(())
 }
 
-/// A copy. If memory is refused, a second try goes on.
-fn copy_at_last(rt: &impl Host, marks: &Marks) -> Result<Marks, AllocError> {
-    match marks.copy() {
-        Ok(copied) => Ok(copied),
-        Err(_) => {
-            tell_refused(rt, "a copy");
-            marks.copy()
-        }
-    }
-}
-
 /// A mark that is taken from a copy stays where it was.
-fn take_from_a_copy(rt: &impl Host, marks: &mut Marks) -> Result<(), Fail> {
-    if marks.places() == 100 {
-        marks.set(99);
-    }
-    let mut copied = copy_at_last(rt, marks)?;
-    let taken = copied.take_first() == Some(99) && copied.is_empty();
-    expect(rt, taken && marks.first() == Some(99), "a mark");
+fn take_from_copy(rt: &impl Host, marks: &Marks) -> Result<(), Refusal> {
+    let mut copied = marks.copy()?;
+    let is_taken = copied.take_first() == Some(99) && copied.is_empty();
+    expect(rt, is_taken && marks.first() == Some(99), "a mark");
     Ok(())
 }
 
 #[test]
-fn places_come_to_two_sets_of_marks_at_once(rt: HostRuntime) -> Result<(), Fail> {
-    let mut marks = unmarked(&rt, 0)?;
-    let mut others = unmarked(&rt, 5000)?;
-    add_many(&rt, &mut marks, &mut others)?;
-    expect(&rt, others.places() == 5100, "places");
-    take_from_a_copy(&rt, &mut marks)
+fn marks_by_place(rt: HostRuntime) -> Result<(), Fail> {
+    walk_at_last(&rt, "marks", || {
+        let mut marks = Marks::new(rt.alloc());
+        mark(&mut marks, &mut Marks::with_places(rt.alloc(), 5000)?)?;
+        take_from_copy(&rt, &marks)
+    })
+}
+
+/// Adds a hundred places to all three, and one to the alarms, for which an alarm is set.
+fn set_alarm(alarms: &mut Alarms, marks: &mut Marks, more: &mut Marks) -> Result<(), Refusal> {
+    for _ in 0..100 {
+        alarms.add_with(marks, more)?;
+    }
+    alarms.add()?;
+    if alarms.len() == 101 {
+        alarms.set(100, 7);
+    }
+    Ok(())
+}
+
+fn copy_alarms(rt: &impl Host, alarms: &Alarms, marks: &Marks) -> Result<(), Refusal> {
+    let (copied, _, _) = alarms.copy_with(marks, marks)?;
+    expect_equal(rt, copied.earliest(), Some(7), "an alarm of a copy");
+    expect_equal(rt, alarms.copy()?.earliest(), Some(7), "that of another");
+    Ok(())
+}
+
+#[test]
+fn alarms_by_place(rt: HostRuntime) -> Result<(), Fail> {
+    walk_at_last(&rt, "alarms", || {
+        let (mut alarms, mut marks, mut more) = Alarms::with_marks(rt.alloc(), 0)?;
+        set_alarm(&mut alarms, &mut marks, &mut more)?;
+        copy_alarms(&rt, &alarms, &marks)
+    })
 }

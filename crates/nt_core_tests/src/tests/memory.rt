@@ -8,6 +8,7 @@ use std::alloc::{AllocError, Global};
 use std::env::Env;
 use std::io::Print;
 use std::process::Abort;
+use std::test::Fail;
 
 /// What the tests want of the system.
 pub trait Host: Abort + AllocGlobal + Env + Print {}
@@ -34,6 +35,21 @@ pub fn tell_refused(rt: &impl Host, whose: &str) {
 pub fn tell_refusal(rt: &impl Host, refusal: Refusal, whose: &str) {
     expect_equal(rt, refusal.number(), NOT_ENOUGH_MEMORY, whose);
     tell_refused(rt, whose);
+}
+
+/// Takes the walk, from its beginning once more where memory is refused.
+pub fn walk_at_last<F: Fn() -> Result<(), Refusal>>(
+    rt: &impl Host,
+    whose: &str,
+    walk: F,
+) -> Result<(), Fail>
+    requires { F.IsAlwaysCallable walk }
+{
+    if let Err(refusal) = walk() {
+        tell_refusal(rt, refusal, whose);
+        walk()?;
+    }
+    Ok(())
 }
 
 /// A dispatcher with this many threads, opened for many if there are more than a usual one has.

@@ -101,12 +101,42 @@ const LOWER_FIRST: &[Row] = &[Row {
     told: Told::None,
 }];
 
+/// How many states of the crossed locks were met after each look.
+const MET: &[usize] = &[
+    3, 5, 6, 8, 10, 12, 14, 14, 15, 15, 16, 17, 18, 19, 19, 21, 21, 22, 22, 23, 23, 24, 25, 26, 26,
+    26,
+];
+
 /// Nobody.
 #[derive(Drop)]
 struct Nobody;
 
 impl Watcher for Nobody {
+    ghost learns = { λ old looked states new. Unit {0} };
+
     fn tell(&mut self, _looked: usize, _states: usize) {}
+}
+
+/// Learns how far the search is, and compares it with how many states are to be met after each look.
+#[derive(Drop)]
+struct Learner {
+    met: &'static [usize],
+    looked: usize,
+    as_expected: bool,
+}
+
+impl Watcher for Learner {
+    ghost learns = { λ old looked states new. Unit {0} };
+
+    fn tell(&mut self, looked: usize, states: usize) {
+        let is_next = looked == self.looked.saturating_add(1);
+        let is_met = match self.met.get(self.looked) {
+            Some(met) => *met == states,
+            None => false,
+        };
+        self.as_expected = self.as_expected && is_next && is_met;
+        self.looked = looked;
+    }
 }
 
 fn call_of(alloc: Global, does: Does) -> Result<Call, Refusal> {
@@ -216,6 +246,40 @@ fn tells_just_this(rt: &impl Host, rows: &[Row]) {
     }
 }
 
+/// Whether a search of the crossed locks from this dispatcher tells just that it met so many after each look.
+fn learns(
+    alloc: Global,
+    core: &mut Core,
+    most: usize,
+    met: &'static [usize],
+) -> Result<bool, Refusal> {
+    make_locks(core, 2)?;
+    let plan = plan_of(alloc, CROSSED)?;
+    let mut learner = Learner {
+        met,
+        looked: 0,
+        as_expected: true,
+    };
+    let explored = explore(alloc, core, &plan, most, &mut learner);
+    if explored.is_err() {
+        return Err(Refusal::Memory);
+    }
+    Ok(learner.as_expected && learner.looked == met.len())
+}
+
+fn is_learned(alloc: Global, most: usize, met: &'static [usize]) -> Result<bool, Refusal> {
+    let mut core = Core::new(alloc, 2)?;
+    learns(alloc, &mut core, most, met)
+}
+
+/// The same, with a second try where memory is refused.
+fn is_learned_at_last(rt: &impl Host, most: usize, met: &'static [usize]) -> Result<bool, Refusal> {
+    is_learned(rt.alloc(), most, met).or_else(|refusal| {
+        tell_refusal(rt, refusal, "a watcher");
+        is_learned(rt.alloc(), most, met)
+    })
+}
+
 // (A test is run once for each growth, with that one refused: so each of the large searches is a test by itself.)
 
 #[test]
@@ -231,4 +295,16 @@ fn philosophers_hang(rt: HostRuntime) {
 #[test]
 fn philosophers_who_take_the_lower_fork_first_do_not_hang(rt: HostRuntime) {
     tells_just_this(&rt, LOWER_FIRST);
+}
+
+#[test]
+fn a_watcher_learns_of_each_look(rt: HostRuntime) {
+    let all = is_learned_at_last(&rt, 1000, MET);
+    expect(&rt, matches!(all, Ok(true)), "all states are looked at");
+}
+
+#[test]
+fn a_watcher_learns_of_no_look_past_the_bound(rt: HostRuntime) {
+    let bound = is_learned_at_last(&rt, 7, &[3, 5, 6, 8]);
+    expect(&rt, matches!(bound, Ok(true)), "more than 7 states are met");
 }
