@@ -1,6 +1,7 @@
-/* What the calls of nt.h take of memory: opens a dispatcher and its copy, which gives numbers again from then on, and makes waits that end at once,
- * for each number of handles from 1 to 64, in each of the two. Words: how many rounds of them. It writes what opening, creating, copying and giving
- * again answered, and ends there where one is refused. Run by tests/allocations, which counts. */
+/* What the calls of nt.h take of memory: makes a dispatcher with its room, and frees it; opens a dispatcher and its copy, which gives numbers again
+ * from then on, and makes waits that end at once, for each number of handles from 1 to 64, in each of the two. Words: how many rounds of them. It
+ * writes what making, opening, creating, copying and giving again answered, and ends there where one is refused. Run by tests/allocations, which
+ * counts. */
 #include "../nt.h"
 #include "check.h"
 
@@ -47,6 +48,9 @@ static void make_waits(struct nt *nt)
 int main(int count, char **words)
 {
     struct nt_reply reply;
+    struct nt *const made = nt_new_lasting(2);
+    tell("new", made == NULL ? 8 : 0);
+    nt_free(made);
     struct nt nt = unopened(), copy = unopened();
     const long rounds = count > 1 ? atol(words[1]) : 1;
     tell("open", nt_open(&nt, 2));
