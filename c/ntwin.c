@@ -13,6 +13,8 @@
 #ifdef CHECKS_WAITING
 #include "ntwin/check.c"
 #endif
+#include "schedule/hooks.h"
+
 #include "ntwin/words.c"
 
 #include "ntwin/times.c"
@@ -81,6 +83,8 @@
 
 #include "win32/processors.c"
 
+#include "win32/topology.c"
+
 #include "win32/fibers.c"
 
 #include "win32/system.c"
@@ -96,6 +100,8 @@
 #include "win32/watch.c"
 
 #include "win32/timers.c"
+
+#include "win32/media_timers.c"
 
 #include "win32/ports.c"
 
@@ -116,3 +122,23 @@
 #include "ntwin/why.c"
 
 #include "ntwin/looking.c"
+
+#if !defined STRANDS_H && !defined HAS_NO_SCHEDULER
+#include "schedule/run.c"
+
+#include "schedule/turns.c"
+
+#include "schedule/strategies.c"
+
+#include "schedule/points.c"
+
+#include "schedule/decisions.c"
+
+#include "schedule/runs.c"
+
+#include "schedule/failure.c"
+
+#include "schedule/tree.c"
+
+#include "schedule/asked.c"
+#endif

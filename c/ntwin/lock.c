@@ -11,12 +11,13 @@
  * All others make the lock FREE, and wake one thread if it was WANTED.
  * To be favoured. Who has taken it `patience` times, with nobody else between, sets `inside` and makes it FAVOURS + n from TAKEN.
  *
- * Why no two have it. The barrier of who revokes stands somewhere among the steps of thread n. If thread n found the favour before the barrier, it had
- * set `inside` before that, too: who revokes sees it, and waits. After the barrier, thread n finds that the lock does not favour it. Nobody but
- * thread n makes the lock favour it again, and for that it has to have the lock.
+ * Why no two have it. One thread at most has made the lock taken or wanted and not given it back, whether it has it or still revokes. The lock comes to
+ * favour thread n by that one alone: by n while it has the lock, or by who has revoked and puts the favour back (`try_lock`). The barrier of who revokes
+ * stands somewhere among the steps of thread n. If thread n found the favour before the barrier, it had set `inside` before that, too: who revokes sees
+ * it, and waits. After the barrier, thread n finds that the lock does not favour it, until who revokes has the lock and gives it back, or puts it back.
  * Why nobody sleeps in vain. Who sleeps on `inside` has revoked. If thread n clears `inside` before the barrier, who revokes sees that; if not, thread n
  * loads the lock after the barrier, and wakes who sleeps. If threads sleep on the lock while it is not WANTED, one of them was woken: it makes it
- * WANTED, be it FREE, TAKEN or FAVOURS + n.
+ * WANTED, be it FREE, TAKEN or FAVOURS + n. (`nt_protocols` has all this as laws of every run: its specs/Lock.antt names the functions below.)
  *
  * To revoke costs a call of the system. So `patience` doubles if a favour was too short to pay for that, and else halves. The lock favours nobody if
  * the system has no such barriers, nor beside ThreadSanitizer and helgrind, which know none. If the system refuses one later, who revokes rests until
@@ -137,7 +138,7 @@ static bool ask_system(int command)
 /* As the process begins, and in a child that was forked. */
 static void ask_for_barriers(void)
 {
-    process.has_barriers = knows_barriers() && ask_system(MEMBARRIER_CMD_REGISTER_PRIVATE_EXPEDITED);
+    process.has_barriers = !is_scheduled && knows_barriers() && ask_system(MEMBARRIER_CMD_REGISTER_PRIVATE_EXPEDITED);
 }
 
 /* Has each other thread pass a barrier, under the lock. */
@@ -276,6 +277,7 @@ static inline void take_lock(void)
  * of its thread that has the lock or takes it. */
 __attribute__((noinline)) static bool take_in_turn(struct seat *caller)
 {
+    may_switch();
     if (inside_of(caller) != 0 || takes_lock(caller)) {
         own.last_error = ERROR_POSSIBLE_DEADLOCK;
         return false;

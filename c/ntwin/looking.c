@@ -4,7 +4,8 @@
  * NTWIN_WHY=signal   at SIGQUIT, on standard error
  * NTWIN_WHY=knot     so, too, and at each call that ties a knot
  * NTWIN_WHY=abort    the same, and then abort()
- * NTWIN_JOURNAL=FILE the run as a script */
+ * NTWIN_JOURNAL=FILE the run as a script
+ * NTWIN_SCHEDULE=..  a scheduler decides who runs (schedule/asked.c), and NTWIN_WHY asks for nothing */
 
 /* A place in the program, and the file it is in. */
 struct module {
@@ -125,6 +126,8 @@ static bool aborts; /* written before main */
 static void tell_knot(struct seat *caller, char *text)
 {
     caller->tells = false;
+    if (by_schedule())
+        end_with_knot(with_places(text));
     say_text(with_places(text));
     if (aborts)
         abort();
@@ -296,7 +299,10 @@ __attribute__((destructor(101))) static void end_looking(void)
 
 __attribute__((constructor(101))) static void read_environment(void)
 {
-    const char *why = secure_getenv("NTWIN_WHY"), *path = secure_getenv("NTWIN_JOURNAL");
+    const char *asked = secure_getenv("NTWIN_SCHEDULE");
+    if (asked != NULL && *asked != 0)
+        begin_schedule(asked);
+    const char *why = is_scheduled ? NULL : secure_getenv("NTWIN_WHY"), *path = secure_getenv("NTWIN_JOURNAL");
     if ((why != NULL && *why != 0) || (path != NULL && *path != 0))
         begin_looking(why != NULL && *why != 0 ? why : NULL, path != NULL && *path != 0 ? path : NULL);
 }

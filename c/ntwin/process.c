@@ -11,6 +11,8 @@ static void *run_thread(void *at)
 {
     jmp_buf end;
     struct seat *seat = own.seat = at;
+    if (by_schedule())
+        begin_scheduled(seat);
     const bool leaves_by_key = pthread_setspecific(process.leaving, rounds) == 0;
     own.id = id_of(seat);
     seat->runner->thread = pthread_self();
@@ -46,8 +48,13 @@ static int start_thread(struct seat *seat, SIZE_T stack, bool is_reserved)
     pthread_attr_getstacksize(&attributes, &usual);
     if (is_reserved ? stack > 0 : stack > usual)
         pthread_attr_setstacksize(&attributes, (stack + GRAIN - 1) & ~(SIZE_T)(GRAIN - 1));
+    if (by_schedule())
+        schedule_thread(seat);
     const int error = pthread_create(&thread, &attributes, run_thread, seat);
+    if (by_schedule() && error != 0)
+        unschedule_thread(seat);
     pthread_attr_destroy(&attributes);
+    may_switch();
     return error;
 }
 
@@ -80,6 +87,8 @@ HANDLE CreateThread(LPSECURITY_ATTRIBUTES attributes, SIZE_T stack, LPTHREAD_STA
     struct seat *caller = join();
     if (caller == NULL)
         return NULL;
+    if (by_schedule())
+        skip_points(1); /* (What comes first tells the program nothing.) */
     if (!join_those_who_are_gone(caller))
         return NULL;
     struct runner *runner = calloc(1, sizeof *runner);

@@ -135,6 +135,7 @@ static void end_seat(struct seat *seat)
  * at the time in its place. */
 static void leave(struct seat *seat)
 {
+    may_switch();
     set_takes_lock(seat, true);
     take_lock();
     see_to_the_overdue(seat);
@@ -196,6 +197,7 @@ static void note_fork(void)
 {
     const bool is_opening = pthread_mutex_trylock(&process.opening) != 0;
     stop_looking();
+    leave_schedule();
     forget_other_threads(own.id);
     own.id = 0;
     process.lost = waiting.left;
@@ -241,7 +243,7 @@ static uint32_t open_for_all(void)
     take_lock();
     waiting.patience = waiting.turns_left = LEAST_PATIENCE;
     waiting.gives_once = journal.text != NULL;
-    waiting.places = waiting.gives_once ? NT_MAXIMUM_THREADS : NT_MANY_THREADS;
+    waiting.places = waiting.gives_once || is_scheduled ? NT_MAXIMUM_THREADS : NT_MANY_THREADS; /* (A scheduled run is to begin soon.) */
     const uint32_t refused = (waiting.gives_once ? nt_open : nt_open_lasting)(&waiting.dispatcher, waiting.places);
     give_lock();
     return refused;
@@ -281,6 +283,7 @@ __attribute__((noinline, cold)) static struct seat *join_first(void)
         return NULL;
     }
     own.joins = true;
+    may_come_in();
     uint32_t refused = own.has_left ? NT_ERROR_THREAD_ENDED : open_dispatcher();
     if (refused == 0 && pthread_setspecific(process.leaving, rounds) != 0)
         refused = NT_ERROR_NOT_ENOUGH_MEMORY;
@@ -344,8 +347,9 @@ static bool join_until(pthread_t thread, uint64_t moment)
  * still run may still call. */
 __attribute__((destructor)) static void end_process(void)
 {
+    leave_turns();
     const uint64_t until = monotonic() + 2 * (uint64_t)MOMENTS_PER_SECOND;
-    if (process.id != getpid())
+    if (process.id != getpid() || (is_scheduled && !has_sanitizer()))
         return;
     while (take_lock_at_last()) {
         struct runner *runner = waiting.left;

@@ -35,6 +35,9 @@ void SetLastError(DWORD error)
 /* From 1601 to 1970, in units of 100 ns. */
 static const int64_t unix_epoch = INT64_C(116444736000000000);
 
+/* Where a scheduled run begins, in UTC: it depends on no clock. */
+static const int64_t start_of_2026 = INT64_C(134116992000000000);
+
 static uint64_t in_moments(const struct timespec *time)
 {
     return (uint64_t)time->tv_sec * MOMENTS_PER_SECOND + (uint64_t)time->tv_nsec / NANOSECONDS_PER_MOMENT;
@@ -44,6 +47,8 @@ static uint64_t in_moments(const struct timespec *time)
 static uint64_t monotonic(void)
 {
     struct timespec now;
+    if (by_schedule())
+        return scheduled_time();
     clock_gettime(CLOCK_MONOTONIC, &now);
     return in_moments(&now);
 }
@@ -52,6 +57,8 @@ static uint64_t monotonic(void)
 static uint64_t coarsely(void)
 {
     struct timespec now;
+    if (by_schedule())
+        return scheduled_time();
     clock_gettime(CLOCK_MONOTONIC_COARSE, &now);
     return in_moments(&now);
 }
@@ -68,6 +75,8 @@ static struct timespec in_timespec(uint64_t time)
 static int64_t universal(void)
 {
     struct timespec now;
+    if (by_schedule())
+        return start_of_2026 + (int64_t)scheduled_time();
     clock_gettime(CLOCK_REALTIME, &now);
     return unix_epoch + (int64_t)now.tv_sec * MOMENTS_PER_SECOND + (int64_t)now.tv_nsec / NANOSECONDS_PER_MOMENT;
 }
@@ -87,6 +96,7 @@ static int64_t moment_of(int64_t time)
 
 ULONGLONG GetTickCount64(void)
 {
+    may_switch_at_clock();
     return monotonic() / (MOMENTS_PER_SECOND / 1000);
 }
 
@@ -97,6 +107,7 @@ DWORD GetTickCount(void)
 
 BOOL QueryPerformanceCounter(LARGE_INTEGER *count)
 {
+    may_switch_at_clock();
     count->QuadPart = (LONGLONG)monotonic();
     return TRUE;
 }
@@ -109,6 +120,7 @@ BOOL QueryPerformanceFrequency(LARGE_INTEGER *frequency)
 
 void GetSystemTimeAsFileTime(LPFILETIME now)
 {
+    may_switch_at_clock();
     const uint64_t time = (uint64_t)universal();
     now->dwLowDateTime = (DWORD)time;
     now->dwHighDateTime = (DWORD)(time >> 32);

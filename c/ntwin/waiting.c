@@ -2,7 +2,8 @@
 /* ---- Those whose waits pend. Each sleeps to its own deadline, and then lets time pass, so that no timeout waits for another thread to
  * run. Those whose waits a timer may end are the watchers. To which moment each sleeps the dispatcher tells (nt_pend), and also whom to
  * call if nobody sleeps short enough for the watchers (nt_told). While there is no watcher nobody can see that a timer is overdue, but by a
- * call, and so the next call lets time pass first. */
+ * call, and so the next call lets time pass first. (`nt_protocols` has laws of the word on which a thread sleeps: its specs/Word.antt names the
+ * functions below.) */
 
 /* The next moment at which anything is due, under the lock, or NEVER. */
 static uint64_t next_due(void)
@@ -189,6 +190,7 @@ __attribute__((noinline)) static void unlock_and_wake_all(struct seat *caller)
     wake_all(woken, wakes);
     if (tells)
         tell_knot(caller, text);
+    may_switch();
 }
 
 /* Gives the lock back, and wakes whom the call told something. */

@@ -274,7 +274,7 @@ __attribute__((always_inline)) static inline DWORD sleep_for_ms(DWORD ms, BOOL a
     const DWORD status = finish_wait(seat, nt_sleep(&waiting.dispatcher, seat->number, ms, alertable != FALSE, &seat->reply),
                                      (struct wait){ NULL, 0, alertable });
     if (ms == 0)
-        sched_yield();
+        yield_to_others();
     return status;
 }
 

@@ -30,7 +30,7 @@ static void write_wide_name(struct report *to, const WCHAR *name)
 static void write_thread(struct report *to, uint32_t number)
 {
     const WCHAR *name = waiting.seats[number].life.description;
-    add(to, "t%u", number);
+    add(to, "t%u", scheduled_number(number));
     if (name != NULL && *name != 0) {
         add_letter(to, ' ');
         write_wide_name(to, name);

@@ -45,6 +45,8 @@ static inline bool has_sanitizer(void)
  * return sooner. */
 static void sleep_among(_Atomic uint32_t *word, uint32_t seen, const struct timespec *until, uint32_t bits)
 {
+    if (slept_by_schedule(word, seen, until, bits))
+        return;
     const int error = errno;
     syscall(SYS_futex, word, FUTEX_WAIT_BITSET_PRIVATE, seen, until, NULL, bits);
     errno = error;
@@ -59,6 +61,8 @@ static void sleep_on(_Atomic uint32_t *word, uint32_t seen, const struct timespe
 /* Wakes one thread that sleeps on the word. */
 __attribute__((noinline)) static void wake_one(_Atomic uint32_t *word)
 {
+    if (woke_by_schedule(word, 1, FUTEX_BITSET_MATCH_ANY))
+        return;
     const int error = errno;
     syscall(SYS_futex, word, FUTEX_WAKE_PRIVATE, 1, NULL, NULL, 0);
     errno = error;

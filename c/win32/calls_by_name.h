@@ -93,6 +93,7 @@ static const struct {
     NAMED(GetLastError),
     NAMED(GetLocalTime),
     NAMED(GetLogicalProcessorInformation),
+    NAMED(GetLogicalProcessorInformationEx),
     NAMED(GetMaximumProcessorCount),
     NAMED(GetMaximumProcessorGroupCount),
     NAMED(GetModuleFileNameA),
@@ -283,5 +284,7 @@ static const struct {
     NAMED(timeEndPeriod),
     NAMED(timeGetDevCaps),
     NAMED(timeGetTime),
+    NAMED(timeKillEvent),
+    NAMED(timeSetEvent),
 };
 #undef NAMED

@@ -1,0 +1,70 @@
+/* SPDX-License-Identifier: MIT OR Apache-2.0 */
+/* ---- Files of decisions: a line for each, as `t1 12 t2`. At its point 12, t1 has t2 go on (or `clock`: the next deadline come). What a file does
+ * not say is as usual. */
+
+static const char first_line[] = "; ntwin-schedule 1";
+static const char free_time[] = " time=free";
+
+static void write_decisions(const char *path)
+{
+    char text[48];
+    FILE *file = fopen(path, "we");
+    if (file != NULL)
+        fprintf(file, "%s%s\n", first_line, schedule.is_free ? free_time : "");
+    for (uint32_t i = 0; file != NULL && i < schedule.shared->made_count; i++) {
+        put_decision(text, &schedule.shared->made[i]);
+        fprintf(file, "%s\n", text);
+    }
+    if (file == NULL || fclose(file) != 0) {
+        char line[768];
+        snprintf(line, sizeof line, "ntwin: %s is not written: %s\n", path, strerror(errno));
+        say(line);
+    }
+}
+
+/* What was asked for can't be done. */
+__attribute__((noreturn, format(printf, 1, 2))) static void refuse(const char *format, ...)
+{
+    char line[1200];
+    va_list words;
+    va_start(words, format);
+    const int length = vsnprintf(line, sizeof line - 1, format, words);
+    va_end(words);
+    snprintf(line + (length < (int)sizeof line - 2 ? length : (int)sizeof line - 2), 2, "\n");
+    say(line);
+    _exit(WRONG_WORDS);
+}
+
+static bool read_decision(const char *line, struct decision *it)
+{
+    unsigned thread, ordinal, chosen;
+    int end = 0;
+    if (sscanf(line, "t%5u %9u clock%n", &thread, &ordinal, &end) == 2 && end > 0)
+        chosen = THE_CLOCK;
+    else if (sscanf(line, "t%5u %9u t%5u%n", &thread, &ordinal, &chosen, &end) != 3)
+        return false;
+    if (thread >= MOST_SCHEDULED || (chosen >= MOST_SCHEDULED && chosen != THE_CLOCK) || line[end + (int)strspn(line + end, " \r\n")] != 0)
+        return false;
+    *it = (struct decision){ (uint16_t)thread, (uint16_t)chosen, ordinal };
+    return true;
+}
+
+static void read_decisions(const char *path)
+{
+    char line[256];
+    FILE *file = fopen(path, "re");
+    if (file == NULL)
+        refuse("ntwin: NTWIN_SCHEDULE: %s: %s", path, strerror(errno));
+    for (uint32_t number = 1; fgets(line, sizeof line, file) != NULL; number++) {
+        if (number == 1 && strncmp(line, first_line, sizeof first_line - 1) != 0)
+            refuse("ntwin: NTWIN_SCHEDULE: %s: no file of decisions: its first line is '%s', as ntwin-explore writes it", path, first_line);
+        if (line[0] == ';' || line[0] == '\n') {
+            schedule.is_free |= number == 1 && strstr(line, free_time) != NULL;
+            continue;
+        }
+        if (schedule.shared->wanted_count == MOST_DECISIONS || !read_decision(line, &schedule.shared->wanted[schedule.shared->wanted_count++]))
+            refuse("ntwin: NTWIN_SCHEDULE: %s:%u: no decision: 't1 12 t2' (at its point 12, t1 has t2 go on) or 't1 12 clock' can stand there", path,
+                   number);
+    }
+    fclose(file);
+}

@@ -1,0 +1,97 @@
+/* SPDX-License-Identifier: MIT OR Apache-2.0 */
+/* ---- Where the library asks a scheduler of the program's threads, which NTWIN_SCHEDULE brings (docs/SCHEDULES.md). One thread runs at a time; at a
+ * point the scheduler decides which one goes on. What is in line here asks one byte where there is no scheduler, and nothing else. */
+#ifndef NTWIN_SCHEDULE_HOOKS_H
+#define NTWIN_SCHEDULE_HOOKS_H
+
+/* Why a thread comes to a point: it calls, lets others go first, sleeps, or has ended. */
+enum point { AT_CALL, AT_YIELD, AT_SLEEP, AT_END };
+
+#if defined STRANDS_H || defined HAS_NO_SCHEDULER
+/* (A test with a scheduler of its own has none beside it; and a test counts what this costs.) */
+enum { is_scheduled = false };
+#define come_to(point) ((void)(point))
+#define come_to_clock() ((void)0)
+#define come_in() ((void)0)
+#define sleep_scheduled(word, seen, until, bits) ((void)(word), (void)(seen), (void)(until), (void)(bits))
+#define wake_scheduled(word, count, bits) ((void)(word), (void)(count), (void)(bits))
+#define scheduled_time() UINT64_C(0)
+#define schedule_thread(seat) ((void)0)
+#define unschedule_thread(seat) ((void)0)
+#define begin_scheduled(seat) ((void)0)
+#define skip_points(count) ((void)(count))
+#define end_with_knot(text) ((void)(text))
+#define scheduled_number(seat) (seat)
+#define begin_schedule(asked) ((void)(asked))
+#define leave_schedule() ((void)0)
+#define leave_turns() ((void)0)
+#else
+static bool is_scheduled; /* written before main, and in a child that the program forks */
+
+static void come_to(enum point point);
+static void come_to_clock(void);
+static void come_in(void);
+static void sleep_scheduled(const _Atomic uint32_t *word, uint32_t seen, const struct timespec *until, uint32_t bits);
+static void wake_scheduled(const _Atomic uint32_t *word, int count, uint32_t bits);
+static uint64_t scheduled_time(void);
+static void schedule_thread(const struct seat *seat);
+static void unschedule_thread(const struct seat *seat);
+static void begin_scheduled(const struct seat *seat);
+static void skip_points(uint32_t count);
+static void end_with_knot(char *text);
+static uint32_t scheduled_number(uint32_t seat);
+static void begin_schedule(const char *asked);
+static void leave_schedule(void);
+static void leave_turns(void);
+#endif
+
+static inline bool by_schedule(void)
+{
+    return __builtin_expect(is_scheduled, 0);
+}
+
+/* Another thread may go on here. */
+static inline void may_switch(void)
+{
+    if (by_schedule())
+        come_to(AT_CALL);
+}
+
+/* The same, where the caller looks at the time. */
+static inline void may_switch_at_clock(void)
+{
+    if (by_schedule())
+        come_to_clock();
+}
+
+/* The caller is about to take its seat: a thread that the scheduler did not know waits for its turn. */
+static inline void may_come_in(void)
+{
+    if (by_schedule())
+        come_in();
+}
+
+static inline void yield_to_others(void)
+{
+    if (by_schedule())
+        come_to(AT_YIELD);
+    else
+        sched_yield();
+}
+
+/* Where there is a scheduler, sleeps on the word, or wakes those that sleep on it, by that. Answers whether there is one. */
+static inline bool slept_by_schedule(const _Atomic uint32_t *word, uint32_t seen, const struct timespec *until, uint32_t bits)
+{
+    if (by_schedule())
+        sleep_scheduled(word, seen, until, bits);
+    return by_schedule();
+}
+
+static inline bool woke_by_schedule(const _Atomic uint32_t *word, int count, uint32_t bits)
+{
+    if (by_schedule())
+        wake_scheduled(word, count, bits);
+    return by_schedule();
+}
+
+#endif

@@ -1,0 +1,154 @@
+/* SPDX-License-Identifier: MIT OR Apache-2.0 */
+/* ---- The tree of choices, gone through depth first: a run for each path. It costs 1 to leave a thread that could go on, to choose another than the
+ * usual one where a thread yields, and to let a deadline come early. All paths of a cost within a bound are tried, for the bounds 0, 1, .. */
+
+enum { IN_MASK = 62, MOST_NODES = 1 << 18, MOST_BOUND = 1 << 30 }; /* so many threads may be explored, and the clock; and so many choices of a run */
+
+/* A choice. */
+struct node {
+    uint64_t ready;              /* who could go on: bit IN_MASK is the clock */
+    uint16_t came, usual, chosen;
+    uint8_t point;
+    uint32_t spent;              /* what the choices before it cost */
+};
+
+static struct {
+    uint32_t count, prefix;      /* how many choices the run had, and how many of them were asked for: */
+    bool is_cut;                 /* it had more */
+    uint16_t asked[MOST_NODES];
+    struct node nodes[MOST_NODES];
+} *tree;
+
+static uint64_t mask_of_ready(bool may_jump)
+{
+    uint64_t mask = (uint64_t)may_jump << IN_MASK;
+    for (uint32_t i = 0; i < schedule.threads_count && i < IN_MASK; i++)
+        mask |= (uint64_t)can_go_on(i) << i;
+    return mask;
+}
+
+static uint32_t cost_of(enum point point, uint32_t usual, uint32_t chosen)
+{
+    return chosen != usual && (point == AT_CALL || point == AT_YIELD || chosen == THE_CLOCK);
+}
+
+/* What was asked for at this choice, or what is usual past those; and the choice is noted. (A run that comes to another choice than the one before it
+ * did depends on more than its schedule.) */
+static uint32_t by_tree(enum point point, uint32_t usual, bool may_jump)
+{
+    const uint64_t ready = mask_of_ready(may_jump);
+    struct node *node = &tree->nodes[tree->count];
+    if (schedule.threads_count > IN_MASK)
+        end_run_saying(CANT_BE_EXPLORED, "it has more than %d threads\n", IN_MASK);
+    if (tree->count == MOST_NODES) {
+        tree->is_cut = true;
+        return usual;
+    }
+    if (tree->count < tree->prefix && (node->ready != ready || node->came != me->number))
+        end_run_saying(CANT_BE_EXPLORED, "it is another run each time: at choice %u t%u came, and t%u before\n", tree->count, me->number, node->came);
+    const uint32_t chosen = tree->count < tree->prefix ? tree->asked[tree->count] : usual;
+    *node = (struct node){ ready, (uint16_t)me->number, (uint16_t)usual, (uint16_t)chosen, (uint8_t)point, schedule.spent };
+    schedule.spent += cost_of(point, usual, chosen);
+    tree->count++;
+    return chosen;
+}
+
+/* ---- From run to run. */
+
+/* The choice that comes after this one: the usual one is the first, then the others by number, and the clock; NO_ONE where there is none. */
+static uint32_t choice_after(const struct node *node, uint32_t chosen)
+{
+    for (uint32_t i = chosen == node->usual ? 0 : chosen == THE_CLOCK ? IN_MASK + 1 : chosen + 1; i <= IN_MASK; i++) {
+        const uint32_t choice = i == IN_MASK ? THE_CLOCK : i;
+        if ((node->ready >> i & 1) != 0 && choice != node->usual && !(node->point == AT_YIELD && i == node->came))
+            return choice;
+    }
+    return NO_ONE;
+}
+
+/* Asks for the next path of a cost within the bound. False where the last run was the last one. */
+static bool ask_for_next(uint32_t bound)
+{
+    for (uint32_t at = tree->count; at-- > 0;) {
+        const struct node *node = &tree->nodes[at];
+        uint32_t next = node->chosen;
+        do
+            next = choice_after(node, next);
+        while (next != NO_ONE && node->spent + cost_of((enum point)node->point, node->usual, next) > bound);
+        if (next == NO_ONE)
+            continue;
+        for (uint32_t i = 0; i < at; i++)
+            tree->asked[i] = tree->nodes[i].chosen;
+        tree->asked[at] = (uint16_t)next;
+        tree->prefix = at + 1;
+        return true;
+    }
+    return false;
+}
+
+/* How far a search came. */
+struct exploration {
+    uint64_t runs, of_bound, longest, began;
+};
+
+__attribute__((noreturn)) static void meet_bound(const struct exploration *search, const char *what, uint32_t bound)
+{
+    char whole[48] = "";
+    if (bound != MOST_BOUND)
+        snprintf(whole, sizeof whole, "; none of a cost below %u was left out", bound);
+    dprintf(1, "ntwin: explore: %llu runs, none fails, and then %s%s; %.2f s\n", (unsigned long long)search->runs, what, whole,
+            seconds_since(search->began));
+    _exit(BOUND_MET);
+}
+
+/* The run has come to each choice that was asked for, if it depends on its schedule alone. */
+static void look_whether_asked(void)
+{
+    if (schedule.shared->verdict != ENDED_WELL || tree->count >= tree->prefix)
+        return;
+    schedule.shared->verdict = CANT_BE_EXPLORED;
+    snprintf(schedule.shared->text, sizeof schedule.shared->text, "it is another run each time: it had %u choices, and %u before\n", tree->count,
+             tree->prefix);
+}
+
+/* Tries all schedules of a cost within the bound. */
+static void explore_bound(struct exploration *search, uint32_t bound)
+{
+    tree->prefix = 0;
+    search->of_bound = 0;
+    do {
+        if (search->runs == schedule.count || real_ns() >= schedule.until)
+            meet_bound(search, search->runs == schedule.count ? "as many were made as may be" : "the minutes were over", bound);
+        tree->count = 0;
+        make_run(false);
+        search->runs++;
+        search->of_bound++;
+        if (schedule.shared->steps > search->longest)
+            search->longest = schedule.shared->steps;
+        look_whether_asked();
+        if (schedule.shared->verdict != ENDED_WELL)
+            tell_failure("explore", search->runs, search->began);
+    } while (ask_for_next(bound));
+    char cost[32] = "";
+    if (bound != MOST_BOUND)
+        snprintf(cost, sizeof cost, " of a cost within %u", bound);
+    dprintf(1, "ntwin: explore: all %llu schedules%s, none fails%s; %llu steps in the longest, %.2f s\n", (unsigned long long)search->of_bound, cost,
+            tree->is_cut ? " (some were too long to be varied to their ends)" : "", (unsigned long long)search->longest,
+            seconds_since(search->began));
+}
+
+/* Tries them for each bound up to this one, or at once for the greatest. Where a bound brings no further schedule there is none. */
+__attribute__((noreturn)) static void explore(uint32_t bound)
+{
+    struct exploration search = { .began = real_ns() };
+    uint64_t before = 0;
+    for (uint32_t i = bound == MOST_BOUND ? bound : 0; i <= bound; i++) {
+        explore_bound(&search, i);
+        if ((search.of_bound == before || i == MOST_BOUND) && !tree->is_cut) {
+            dprintf(1, "ntwin: explore: these are all schedules\n");
+            break;
+        }
+        before = search.of_bound;
+    }
+    _exit(0);
+}

@@ -1,0 +1,153 @@
+/* SPDX-License-Identifier: MIT OR Apache-2.0 */
+/* ---- Threads of a run, who of them can go on, and the time. */
+
+static void wait_for_baton(struct scheduled *it)
+{
+    while (atomic_load_explicit(&it->baton, memory_order_acquire) == 0)
+        syscall(SYS_futex, &it->baton, FUTEX_WAIT_PRIVATE, 0, NULL, NULL, 0);
+    atomic_store_explicit(&it->baton, 0, memory_order_relaxed);
+}
+
+static void hand_baton(struct scheduled *it)
+{
+    atomic_store_explicit(&it->baton, 1, memory_order_release);
+    syscall(SYS_futex, &it->baton, FUTEX_WAKE_PRIVATE, 1, NULL, NULL, 0);
+}
+
+/* ---- Threads come. */
+
+static void number_thread(struct scheduled *it)
+{
+    it->number = schedule.threads_count;
+    it->priority = (int64_t)(any_number() >> 2);
+    it->since = ++schedule.turns;
+    schedule.threads[schedule.threads_count++] = it;
+    schedule.shared->threads = schedule.threads_count;
+    schedule.alive++;
+}
+
+static struct scheduled *make_thread(void)
+{
+    const uint32_t number = atomic_fetch_add(&schedule.made_count, 1);
+    if (number >= MOST_SCHEDULED)
+        end_run_saying(NEVER_ENDS, "more than %d threads were made\n", MOST_SCHEDULED);
+    struct scheduled *it = &schedule.made[number];
+    it->seat = NO_ONE;
+    return it;
+}
+
+/* Those that CreateThread did not make, in the order in which they came. */
+static struct {
+    pthread_mutex_t turn;
+    struct scheduled *first, **last;
+    _Atomic uint32_t count;
+} arrivals = { .turn = PTHREAD_MUTEX_INITIALIZER, .last = &arrivals.first };
+
+static void admit_arrivals(void)
+{
+    pthread_mutex_lock(&arrivals.turn);
+    for (struct scheduled *it = arrivals.first; it != NULL; it = it->next)
+        number_thread(it);
+    arrivals.first = NULL;
+    arrivals.last = &arrivals.first;
+    arrivals.count = 0;
+    pthread_mutex_unlock(&arrivals.turn);
+}
+
+/* Nobody can go on. Waits for a thread that CreateThread did not make, where the process has more threads than are known. (Of those the caller, which
+ * has ended, is one.) */
+static bool awaits_arrival(bool caller_has_ended)
+{
+    const struct timespec pause = { .tv_nsec = 1000000 };
+    struct stat tasks;
+    for (int i = 0; i < 100; i++) {
+        if (arrivals.count > 0)
+            return true;
+        if (stat("/proc/self/task", &tasks) != 0 || tasks.st_nlink - 2 <= schedule.alive + caller_has_ended)
+            return false;
+        nanosleep(&pause, NULL);
+    }
+    return false;
+}
+
+/* Where the caller ends, of the rounds of its destructors the last. */
+static char ending_rounds[PTHREAD_DESTRUCTOR_ITERATIONS];
+
+/* From now on the caller is this thread, once it has its turn. */
+static void take_part(struct scheduled *it)
+{
+    me = it;
+    pthread_setspecific(schedule.ending, ending_rounds);
+    wait_for_baton(it);
+}
+
+/* The caller, which CreateThread did not make, comes as soon as others let it. */
+static void come_by_itself(void)
+{
+    struct scheduled *it = make_thread();
+    pthread_mutex_lock(&arrivals.turn);
+    *arrivals.last = it;
+    arrivals.last = &it->next;
+    arrivals.count++;
+    pthread_mutex_unlock(&arrivals.turn);
+    take_part(it);
+}
+
+/* ---- Who can go on. */
+
+static bool can_go_on(uint32_t number)
+{
+    return number < schedule.threads_count && schedule.threads[number]->state == CAN_GO_ON;
+}
+
+/* How the threads stand: how many can go on, and the next deadline of one that sleeps. */
+struct stand {
+    uint32_t ready;
+    uint64_t deadline;
+};
+
+/* It can go on from now on. */
+static void let_go_on(struct scheduled *it)
+{
+    it->state = CAN_GO_ON;
+    it->since = ++schedule.turns;
+}
+
+/* Those whose deadline has come can go on. */
+static struct stand look_round(void)
+{
+    struct stand stand = { 0, NEVER };
+    for (uint32_t i = 0; i < schedule.threads_count; i++) {
+        struct scheduled *it = schedule.threads[i];
+        if (it->state == IS_SLEEPING && it->until <= schedule.now)
+            let_go_on(it);
+        if (it->state == IS_SLEEPING && it->until < stand.deadline)
+            stand.deadline = it->until;
+        stand.ready += it->state == CAN_GO_ON;
+    }
+    return stand;
+}
+
+/* Of those that can go on who has waited the longest for that; where no other can, the caller if it can; NO_ONE where there is none. (So no
+ * thread waits for good while others come and go.) */
+static uint32_t next_in_turn(void)
+{
+    const struct scheduled *next = NULL;
+    for (uint32_t i = 0; i < schedule.threads_count; i++)
+        if (i != me->number && can_go_on(i) && (next == NULL || schedule.threads[i]->since < next->since))
+            next = schedule.threads[i];
+    if (next != NULL)
+        return next->number;
+    return can_go_on(me->number) ? me->number : NO_ONE;
+}
+
+/* Who goes on where nothing is decided: the caller; where it can't, or yields, the next in turn; else the clock. */
+static uint32_t usual_choice(enum point point, const struct stand *stand)
+{
+    if (point == AT_CALL)
+        return me->number;
+    const uint32_t next = next_in_turn();
+    if (next != NO_ONE)
+        return next;
+    return stand->deadline != NEVER ? THE_CLOCK : NO_ONE;
+}
