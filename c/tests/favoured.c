@@ -1,6 +1,8 @@
 /* The lock and the thread that it favours, under real threads: one of them takes the lock often, others do now and then, and which one that is
- * changes; threads end, and others begin. A counter that nothing but the lock protects tells where two have it, and who is not done in time has
- * slept with the lock free. A thread that reads what the favoured one stores makes these stores slow, so that others may see them late. */
+ * changes; threads end, and others begin in the seats that these have left, which the lock does not favour then. The first takes it by plain
+ * stores, alone in the process, until it is favoured: who comes then revokes that. A counter that nothing but the lock protects tells where two
+ * have it, and who is not done in time has slept with the lock free. A thread that reads what the favoured one stores makes these stores slow, so
+ * that others may see them late. */
 #define LEAST_PATIENCE 2
 #define MOST_PATIENCE 16
 #define TURNS_THAT_PAY 8
@@ -15,6 +17,8 @@ static volatile uint64_t COUNT;       /* how often it was taken, under the lock 
 static _Atomic uint64_t TAKES;        /* the same, of all threads that have ended */
 static _Atomic uint64_t FAVOURS_LOST; /* how often a thread found that the lock favours it no longer */
 static _Atomic uint64_t FAVOURED;     /* how often a thread took it as the favoured one */
+static _Atomic uint64_t LATER;        /* how many threads got a seat that another had left */
+static _Atomic bool HAD[THREADS + 1]; /* the seats that a thread has had */
 static _Atomic bool DONE;
 
 /* What a thread has seen. */
@@ -76,7 +80,8 @@ static void *live(void *seed)
 {
     struct taker me = { .chance = (uintptr_t)seed };
     struct seat *seat = join();
-    must(seat != NULL);
+    must(seat != NULL && seat->number <= THREADS && !lock_is(FAVOURS + seat->number) && inside_of(seat) == 0);
+    LATER += atomic_exchange(&HAD[seat->number], true);
     for (int round = 0; round < ROUNDS; round++) {
         for (uint32_t left = below(&me, 3) == 0 ? below(&me, MOST_IN_A_ROW) : 1; left > 0; left--)
             call(&me, seat);
@@ -111,9 +116,25 @@ static void *read_words(void *none)
     return none;
 }
 
+/* The process' only thread calls. Answers whether the lock favours it then. */
+static bool is_favoured_alone(void)
+{
+    struct taker me = { .chance = 0 };
+    struct seat *seat = join();
+    must(seat != NULL);
+#ifdef TELLS_WHETHER_ALONE
+    must(is_alone());
+#endif
+    for (int i = 0; i < MOST_IN_A_ROW; i++)
+        call(&me, seat);
+    TAKES += me.takes;
+    return lock_is(FAVOURS + seat->number) && me.favoured > 0;
+}
+
 int main(void)
 {
     pthread_t threads[THREADS], reader;
+    IS(is_favoured_alone(), process.has_barriers);
     must(pthread_create(&reader, NULL, read_words, NULL) == 0);
     for (uintptr_t i = 0; i < THREADS; i++)
         must(pthread_create(&threads[i], NULL, live_often, (void *)(i + 1)) == 0);
@@ -124,6 +145,7 @@ int main(void)
     IS(COUNT, TAKES);
     IS(FAVOURED > 0, process.has_barriers);
     IS(FAVOURS_LOST > 0, process.has_barriers);
-    IS(waiting.alive, 0);
+    IS(LATER >= THREADS * (LIVES - 1), true);
+    IS(waiting.alive, 1); /* the first */
     return counted();
 }

@@ -173,6 +173,20 @@ static void srw_locks(void)
     join_all();
 }
 
+/* As many share it as its word counts, one short of what stands for who has it alone; one more waits. */
+static void shared_by_the_most(void)
+{
+    enum { MOST = 0xFFFF - 1 };
+    for (int i = 0; i < MOST; i++)
+        AcquireSRWLockShared(&LOCK);
+    tries(&LOCK, FALSE, FALSE);
+    ReleaseSRWLockShared(&LOCK);
+    tries(&LOCK, TRUE, FALSE);
+    for (int i = 1; i < MOST; i++)
+        ReleaseSRWLockShared(&LOCK);
+    tries(&LOCK, TRUE, TRUE);
+}
+
 static long PAIR[2];
 static LONG SHARERS, MOST_SHARERS;
 
@@ -222,6 +236,7 @@ int main(void)
     DeleteCriticalSection(&SECTION);
     entered_after_a_fork();
     srw_locks();
+    shared_by_the_most();
     crowd_over_a_lock();
     return counted();
 }

@@ -4,18 +4,27 @@
 
 #include "check.h"
 
+#include <stdlib.h>
+
 #if defined _WIN32 && defined __x86_64__
 #if !defined _WIN64 || _M_X64 != 100 || _M_AMD64 != 100
 #error "these are defined where _WIN32 is"
 #endif
 #endif
 
-/* In C the compiler knows that a variable is small, in C++ where it optimizes. That a field is one knows gcc where it optimizes, and clang in C. */
+/* In C the compiler knows that a variable is small, in C++ where it optimizes. That a field is one knows gcc where it optimizes, and clang; but in C++ not
+ * that of a volatile one. How much was allocated for a place knows who optimizes. */
 #if !defined __cplusplus || defined __OPTIMIZE__
 #define KNOWS_VARIABLES
 #endif
-#if defined __clang__ ? !defined __cplusplus : defined __OPTIMIZE__
+#if defined __clang__ || defined __OPTIMIZE__
 #define KNOWS_FIELDS
+#endif
+#if defined __clang__ ? !defined __cplusplus : defined __OPTIMIZE__
+#define KNOWS_VOLATILE_FIELDS
+#endif
+#ifdef __OPTIMIZE__
+#define KNOWS_ALLOCATIONS
 #endif
 
 /* What is beside each word: a word that has all bits, and one that has none. */
@@ -71,12 +80,36 @@ __attribute__((__noinline__)) static void between_two(struct words *words)
 }
 
 #ifdef KNOWS_FIELDS
-static void field_at_multiple(struct words *words)
+__attribute__((__noinline__)) static void field_at_multiple(struct words *words)
+{
+    volatile LONG *volatile place = &words->at_multiple;
+    ROWS(*place, signed_long, (signed_long *)&words->at_multiple);
+    ROWS(*place, unsigned_long, (unsigned_long *)&words->at_multiple);
+    words->at_multiple = 7;
+    are_alone(words, 7, 0);
+}
+#endif
+
+#ifdef KNOWS_VOLATILE_FIELDS
+static void volatile_field_at_multiple(struct words *words)
 {
     ROWS(words->at_multiple, signed_long, (signed_long volatile *)&words->at_multiple);
     ROWS(words->at_multiple, unsigned_long, (unsigned_long volatile *)&words->at_multiple);
     words->at_multiple = 7;
     are_alone(words, 7, 0);
+}
+#endif
+
+#ifdef KNOWS_ALLOCATIONS
+/* (The word behind it is the heap's.) */
+static void allocated_at_multiple(void)
+{
+    LONG *at = (LONG *)malloc(sizeof *at);
+    volatile LONG *volatile place = at;
+    must(at != NULL);
+    ROWS(*place, signed_long, (signed_long volatile *)at);
+    ROWS(*place, unsigned_long, (unsigned_long volatile *)at);
+    free(at);
 }
 #endif
 
@@ -111,6 +144,18 @@ static void whole_longs(void)
     IS(positive, 0xFFFFFFFFuL);
 }
 
+/* At a multiple of 8 where the compiler knows no size 64 bits are changed: so the word behind it is a part of the `long`. */
+__attribute__((__noinline__)) static void unknown_at_multiple(struct words *words)
+{
+    signed_long volatile *volatile place = (signed_long volatile *)words;
+    words->at_multiple = -1;
+    words->between = 0;
+    IS(InterlockedIncrement(place), 0x100000000L);
+    are_alone(words, 0, 1);
+    IS(InterlockedExchange(place, 7), 0x100000000L);
+    are_alone(words, 7, 0);
+}
+
 int main(void)
 {
     static struct words words __attribute__((__aligned__(8))) = { 7, 0, -1, 0 };
@@ -121,6 +166,13 @@ int main(void)
 #ifdef KNOWS_VARIABLES
     variable_at_multiple();
 #endif
+#ifdef KNOWS_VOLATILE_FIELDS
+    volatile_field_at_multiple(&words);
+#endif
+#ifdef KNOWS_ALLOCATIONS
+    allocated_at_multiple();
+#endif
+    unknown_at_multiple(&words);
     whole_longs();
     return counted();
 }

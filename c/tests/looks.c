@@ -141,6 +141,28 @@ static void stuck_and_no_knot(void)
     WHY(false, false, true, 70000, false, false, false);
 }
 
+enum { MANY = 257 };
+
+/* Of more threads than a front may have, the first and the last hold each other, and memory to find that is there. */
+static void many_threads(void)
+{
+    static const bool over[MANY];
+    static bool knot[MANY];
+    struct nt_why why = { true, true, 99 };
+    nt.room = room();
+    must(nt_open_lasting(&nt, MANY) == 0);
+    must(nt_create_mutex(&nt, 0, NT_MUTEX_INITIAL_OWNER, &reply) == 0);
+    must(nt_create_mutex(&nt, MANY - 1, NT_MUTEX_INITIAL_OWNER, &reply) == 0);
+    must(nt_wait_object(&nt, 0, MANY + 1, NT_INFINITE, false, &reply) == 0);
+    must(nt_wait_object(&nt, MANY - 1, MANY, NT_INFINITE, false, &reply) == 0);
+    IS(nt_why(&nt, over, MANY, NT_GREATEST_MOMENT, &why, knot, MANY), 0);
+    IS(why.stuck, false);
+    IS(why.due, false);
+    for (uint32_t who = 0; who < MANY; who++)
+        IS(knot[who], who == 0 || who == MANY - 1);
+    close_three();
+}
+
 static void with(void (*test)(void))
 {
     open_three();
@@ -154,5 +176,6 @@ int main(void)
     with(objects);
     with(a_knot);
     with(stuck_and_no_knot);
+    many_threads();
     return counted();
 }

@@ -109,6 +109,68 @@ static void told_processors(void)
     IS(seen[RelationNumaNode], all);
 }
 
+/* An entry of each relationship: how many bytes it takes on Microsoft's page, and the mask in it. */
+static DWORD_PTR mask_in(const SYSTEM_LOGICAL_PROCESSOR_INFORMATION_EX *entry)
+{
+    switch (entry->Relationship) {
+    case RelationProcessorCore:
+    case RelationProcessorPackage:
+        must(entry->Size == 48 && entry->Processor.GroupCount == 1 && entry->Processor.EfficiencyClass == 0 && entry->Processor.GroupMask[0].Group == 0);
+        must(entry->Relationship == RelationProcessorPackage ? entry->Processor.Flags == 0 : entry->Processor.Flags <= 1);
+        return entry->Processor.GroupMask[0].Mask;
+    case RelationNumaNode:
+        must(entry->Size == 48 && entry->NumaNode.NodeNumber == 0 && entry->NumaNode.GroupCount == 1);
+        return entry->NumaNode.GroupMask.Mask;
+    default:
+        must(entry->Size == 80 && entry->Relationship == RelationGroup && entry->Group.MaximumGroupCount == 1 && entry->Group.ActiveGroupCount == 1);
+        must(entry->Group.GroupInfo[0].ActiveProcessorCount <= entry->Group.GroupInfo[0].MaximumProcessorCount);
+        must(entry->Group.GroupInfo[0].ActiveProcessorCount == __builtin_popcountl(entry->Group.GroupInfo[0].ActiveProcessorMask));
+        return entry->Group.GroupInfo[0].ActiveProcessorMask;
+    }
+}
+
+/* What is told of one relationship, or of all: each processor is in one entry of each. Answers how many bytes that takes. */
+static DWORD told_by_relationship(LOGICAL_PROCESSOR_RELATIONSHIP relationship, DWORD_PTR seen[5])
+{
+    static union {
+        SYSTEM_LOGICAL_PROCESSOR_INFORMATION_EX first;
+        BYTE bytes[200 * 48];
+    } told;
+    DWORD length = 0, room = sizeof told, at = 0;
+    memset(seen, 0, 5 * sizeof *seen);
+    ANSWERS(GetLogicalProcessorInformationEx(relationship, NULL, &length), FALSE, ERROR_INSUFFICIENT_BUFFER);
+    ANSWERS(GetLogicalProcessorInformationEx(relationship, &told.first, &room), TRUE, UNTOUCHED);
+    IS(room, length);
+    while (at < room) {
+        const SYSTEM_LOGICAL_PROCESSOR_INFORMATION_EX *entry = (const void *)(told.bytes + at);
+        must((seen[entry->Relationship] & mask_in(entry)) == 0);
+        seen[entry->Relationship] |= mask_in(entry);
+        at += entry->Size;
+    }
+    IS(at, room);
+    return room;
+}
+
+static void told_processors_with_groups(void)
+{
+    static const LOGICAL_PROCESSOR_RELATIONSHIP relationships[] = { RelationProcessorCore, RelationProcessorPackage, RelationNumaNode, RelationGroup };
+    DWORD_PTR seen[5];
+    DWORD sum = 0, none = 0;
+    ULONGLONG all;
+    GetNumaNodeProcessorMask(0, &all);
+    for (size_t i = 0; i < sizeof relationships / sizeof *relationships; i++) {
+        sum += told_by_relationship(relationships[i], seen);
+        for (size_t j = 0; j < 5; j++)
+            IS(seen[j], j == relationships[i] ? all : 0);
+    }
+    IS(told_by_relationship(RelationAll, seen), sum);
+    for (size_t i = 0; i < sizeof relationships / sizeof *relationships; i++)
+        IS(seen[relationships[i]], all);
+    IS(seen[RelationCache], 0);
+    ANSWERS(GetLogicalProcessorInformationEx(RelationCache, NULL, &none), TRUE, UNTOUCHED);
+    ANSWERS(GetLogicalProcessorInformationEx((LOGICAL_PROCESSOR_RELATIONSHIP)99, NULL, &none), FALSE, ERROR_INVALID_PARAMETER);
+}
+
 static void memory(void)
 {
     MEMORYSTATUSEX status = { .dwLength = sizeof status };
@@ -295,6 +357,7 @@ int main(void)
     processors();
     groups_and_nodes();
     told_processors();
+    told_processors_with_groups();
     memory();
     aligned_memory();
     text();

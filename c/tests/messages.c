@@ -109,7 +109,7 @@ static void modules(void)
     ((set_error)(void (*)(void))GetProcAddress(here, "SetLastError"))(77);
     IS(((get_error)(void (*)(void))GetProcAddress(here, "GetLastError"))(), 77);
     /* (The first, the last, and those that programs look for.) */
-    const char *const found[] = { "AcquireSRWLockExclusive", "timeGetTime", "InitializeConditionVariable", "SetThreadDescription",
+    const char *const found[] = { "AcquireSRWLockExclusive", "timeSetEvent", "timeGetTime", "InitializeConditionVariable", "SetThreadDescription",
                                   "GetTickCount64", "InitOnceExecuteOnce", "WaitOnAddress", "GetSystemTimePreciseAsFileTime" };
     for (size_t i = 0; i < ARRAYSIZE(found); i++)
         IS(GetProcAddress(here, found[i]) != NULL, 1);

@@ -99,6 +99,23 @@ static void enter_barrier_twice(void)
     enter_barrier();
 }
 
+/* Another thread has come to the barrier, and looks all the time whether it opens; then it comes once more. */
+static void enter_barrier_twice_and_look(void)
+{
+    for (int i = 0; i < 2; i++)
+        EnterSynchronizationBarrier(&shared->barrier, SYNCHRONIZATION_BARRIER_FLAGS_SPIN_ONLY);
+}
+
+static void barrier_of_two_with_one_inside(void)
+{
+    static act *const comes = enter_barrier_twice_and_look;
+    struct barrier *const it = (struct barrier *)(void *)&shared->barrier;
+    barrier_of_two();
+    must(pthread_create(&waiter, NULL, run_act, (void *)(uintptr_t)&comes) == 0);
+    while (atomic_load(&it->come) == 0)
+        sched_yield();
+}
+
 static void enter_barrier_and_delete(void)
 {
     enter_barrier();
@@ -114,6 +131,7 @@ static void sections_and_others(void)
     try_pair("InitOnceExecuteOnce, of which the first fails", not_initialized, initialize_after_failure, initialize_after_failure,
              was_initialized_twice, 30);
     try_pair("EnterSynchronizationBarrier, which is then deleted", barrier_of_two, enter_barrier, enter_barrier_and_delete, nothing, 30);
+    try_pair("EnterSynchronizationBarrier, as the last", barrier_of_two_with_one_inside, enter_barrier_twice, nothing, end_waiter, 30);
     try_pair("EnterSynchronizationBarrier", barrier_of_two, enter_barrier_twice, enter_barrier_twice, nothing, 30);
 }
 

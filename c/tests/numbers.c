@@ -172,9 +172,89 @@ static void from_now_on(void)
     free(once.room);
 }
 
+/* In this dispatcher, as below, all is set, and the wait for 64 objects and the timer's APC come. */
+static void come_to_the_end(struct nt *it, const uint32_t *handles, uint32_t timer)
+{
+    struct nt_grant grant = { 99, 99 };
+    for (uint32_t k = 0; k < NT_MAXIMUM_WAIT_OBJECTS; k++) {
+        IS(nt_grant(it, 0, &grant), NT_ERROR_NO_MORE_ITEMS);
+        IS(nt_set_event(it, 1, handles[k], &reply), 0);
+    }
+    IS(nt_grant(it, 0, &grant), 0);
+    IS(grant.thread, 0);
+    IS(grant.status, NT_WAIT_OBJECT_0);
+    IS(nt_tick(it, 10), 0);
+    IS(nt_wait_object(it, 1, timer, 0, false, &reply), 0);
+    IS(reply.number, NT_WAIT_OBJECT_0);
+    IS(nt_sleep(it, 1, 0, true, &reply), 0);
+    IS(reply.number, NT_WAIT_IO_COMPLETION);
+    IS(nt_next_apc(it, 1, &reply), 0);
+    IS(reply.kind, NT_APC);
+    IS(reply.routine, 7);
+    IS(reply.arg, 9);
+    IS(reply.at, 10);
+}
+
+/* If memory is there, none is refused, however large the numbers: to a timer with a routine, to a wait for 64 objects that pends, to a copy then. */
+static void far_numbers(void)
+{
+    struct nt lasting = { room(), false }, copy = { room(), false };
+    uint32_t handles[NT_MAXIMUM_WAIT_OBJECTS];
+    const uint32_t timer = 5000;
+    IS(nt_open_lasting(&lasting, 2), 0);
+    for (uint32_t number = 2; number < timer; number++)
+        must(made_in(&lasting) == number);
+    IS(nt_create_timer(&lasting, 0, 0, &reply), 0);
+    IS(reply.number, timer);
+    IS(nt_set_timer_apc(&lasting, 1, timer, 10, 0, 7, 9, &reply), 0);
+    for (uint32_t k = 0; k < NT_MAXIMUM_WAIT_OBJECTS; k++)
+        handles[k] = 4096 + k;
+    IS(nt_wait(&lasting, 0, handles, NT_MAXIMUM_WAIT_OBJECTS, true, NT_INFINITE, false, &reply), 0);
+    IS(reply.kind, NT_PENDED);
+    IS(nt_copy(&lasting, &copy), 0);
+    come_to_the_end(&lasting, handles, timer);
+    come_to_the_end(&copy, handles, timer);
+    nt_close(&lasting);
+    nt_close(&copy);
+    free(lasting.room);
+    free(copy.room);
+}
+
+/* A number that was freed is given again before new ones end, whatever is still awaited; a copy goes on where its original was. */
+static void turns(void)
+{
+    struct nt lasting = { room(), false }, copy = { room(), false };
+    IS(nt_open_lasting(&lasting, 4), 0);
+    for (uint32_t number = 4; number < 8; number++)
+        IS(made_in(&lasting), number);
+    /* The objects 4, 5 and 7 are awaited still, 6 is gone; 7 was freed last, and the turn is that of 4. */
+    for (uint32_t who = 1; who < 4; who++)
+        IS(nt_wait_object(&lasting, who, (uint32_t[]){ 4, 5, 7 }[who - 1], NT_INFINITE, false, &reply), 0);
+    for (uint32_t number = 4; number < 8; number++)
+        IS(nt_close_handle(&lasting, 0, number, &reply), 0);
+    struct nt_opened opened = { 99, 99 };
+    /* New objects, while 4 and then 5 are awaited. */
+    for (uint32_t object = 8; object < 10; object++) {
+        const uint32_t handle = made_in(&lasting);
+        IS(nt_opened(&lasting, handle, &opened), 0);
+        IS(opened.object, object);
+    }
+    IS(nt_copy(&lasting, &copy), 0);
+    for (int k = 0; k < 2; k++) {
+        struct nt *it = k ? &copy : &lasting;
+        const uint32_t handle = made_in(it);
+        IS(nt_opened(it, handle, &opened), 0);
+        IS(opened.object, 6);
+        nt_close(it);
+        free(it->room);
+    }
+}
+
 int main(void)
 {
     numbers();
+    far_numbers();
+    turns();
     places();
     aside();
     limit();

@@ -13,10 +13,12 @@
 #define counted counted_checks /* (ntwin.c has another.) */
 #include "check.h"
 
-/* What runs under the dispatcher's lock is for c/tests/schedules to try. */
+/* What runs under the dispatcher's lock is for c/tests/schedules to try, but where a pair is of the lock itself. */
+static bool is_of_lock;
+
 static bool is_passed_over(void)
 {
-    return lock_is(TAKEN) || lock_is(WANTED) || (own.seat != NULL && inside_of(own.seat) != 0);
+    return !is_of_lock && (lock_is(TAKEN) || lock_is(WANTED) || (own.seat != NULL && inside_of(own.seat) != 0));
 }
 
 enum { PAGE = 4096, SECONDS_EACH_TIME = 20 };
@@ -34,7 +36,7 @@ static long touches; /* after it was freed */
 static const char *pair;
 static long number;
 
-static void free_shared(void)
+static inline void free_shared(void)
 {
     must(mprotect(shared, PAGE, PROT_NONE) == 0);
 }
@@ -94,24 +96,32 @@ static void *run_act(void *at)
     return NULL;
 }
 
+/* How many threads sleep for a lock. */
+static inline int count_sleepers(void)
+{
+    int count = 0;
+    take_latch(&sleepers.latch);
+    for (const struct sleeper *at = sleepers.first; at != NULL; at = at->later)
+        count++;
+    give_latch(&sleepers.latch);
+    return count;
+}
+
 /* Begins it, and waits until it sleeps for a lock. */
-static void begin_waiter(act *const *does)
+static inline void begin_waiter(act *const *does)
 {
     must(pthread_create(&waiter, NULL, run_act, (void *)(uintptr_t)does) == 0);
-    for (bool sleeps = false; !sleeps; sched_yield()) {
-        take_latch(&sleepers.latch);
-        sleeps = sleepers.first != NULL;
-        give_latch(&sleepers.latch);
-    }
+    while (count_sleepers() == 0)
+        sched_yield();
     usleep(100);
 }
 
-static void end_waiter(void)
+static inline void end_waiter(void)
 {
     must(pthread_join(waiter, NULL) == 0);
 }
 
-static void nothing(void)
+static inline void nothing(void)
 {
 }
 

@@ -66,6 +66,38 @@ static void shared_and_wanted_alone(void)
     begin_waiter(&wants_alone);
 }
 
+/* Three that want to share it, and each gives it back once all have it. */
+enum { SHARERS_WAITING = 3 };
+static pthread_t sharers[SHARERS_WAITING];
+static LONG sharing;
+
+static void share_until_all_do(void)
+{
+    AcquireSRWLockShared(&shared->lock);
+    InterlockedIncrement(&sharing);
+    while (ReadAcquire(&sharing) < SHARERS_WAITING)
+        sched_yield();
+    ReleaseSRWLockShared(&shared->lock);
+}
+
+static void held_alone_and_wanted_by_three(void)
+{
+    static act *const wants = share_until_all_do;
+    AcquireSRWLockExclusive(&shared->lock);
+    sharing = 0;
+    for (int i = 0; i < SHARERS_WAITING; i++)
+        must(pthread_create(&sharers[i], NULL, run_act, (void *)(uintptr_t)&wants) == 0);
+    while (count_sleepers() < SHARERS_WAITING)
+        sched_yield();
+    usleep(100);
+}
+
+static void end_sharers(void)
+{
+    for (int i = 0; i < SHARERS_WAITING; i++)
+        must(pthread_join(sharers[i], NULL) == 0);
+}
+
 static void shared_by_two(void)
 {
     AcquireSRWLockShared(&shared->lock);
@@ -83,6 +115,7 @@ static void srw_locks(void)
     try_pair("ReleaseSRWLockExclusive", held_alone, release_exclusive, take_and_free, nothing, 5);
     try_pair("ReleaseSRWLockExclusive, wanted alone", held_alone_and_wanted_alone, release_exclusive, take_and_free_after_waiter, nothing, 10);
     try_pair("ReleaseSRWLockExclusive, wanted by a sharer", held_alone_and_wanted_by_sharer, release_exclusive, take_and_free_after_waiter, nothing, 10);
+    try_pair("ReleaseSRWLockExclusive, wanted by three sharers", held_alone_and_wanted_by_three, release_exclusive, nothing, end_sharers, 10);
     try_pair("ReleaseSRWLockShared, wanted alone", shared_and_wanted_alone, release_shared, take_and_free_after_waiter, nothing, 10);
     try_pair("ReleaseSRWLockShared, shared by two", shared_by_two, release_shared, release_shared_and_free, nothing, 5);
     try_pair("AcquireSRWLockExclusive", held_alone, take_alone_and_give, release_exclusive, nothing, 20);

@@ -73,14 +73,14 @@ static void least_threads(void)
     LONG ran = 0;
     SetThreadpoolThreadMaximum(pool, 2);
     ANSWERS(SetThreadpoolThreadMinimum(pool, 1), TRUE, UNTOUCHED);
-    /* (A sanitizer may have a thread of its own.) */
+    InitializeThreadpoolEnvironment(&environment);
+    SetThreadpoolCallbackPool(&environment, pool);
+    PTP_WORK work = CreateThreadpoolWork(wait_in_work, &ran, &environment);
+    /* (A sanitizer may have a thread of its own, and the first work is there with a thread that keeps the time.) */
     const int before = threads_now() - 1;
     IS(before > 0, TRUE);
     ANSWERS(SetThreadpoolThreadMinimum(pool, 5), TRUE, UNTOUCHED);
     IS(threads_once(before + 5), before + 5);
-    InitializeThreadpoolEnvironment(&environment);
-    SetThreadpoolCallbackPool(&environment, pool);
-    PTP_WORK work = CreateThreadpoolWork(wait_in_work, &ran, &environment);
     for (int i = 0; i < 9; i++)
         SubmitThreadpoolWork(work);
     while (ReadAcquire(&ran) < 5)

@@ -192,40 +192,40 @@ NTWIN_INLINE BYTE InterlockedCompareExchange128(LONG64 volatile *at, LONG64 high
 #define _InterlockedCompareExchange128 InterlockedCompareExchange128
 
 /* ---- A `long` has 64 bits here, and 32 on Windows: so a program casts the address of a LONG to one of a `long`. Where no `long` can be, 32 bits are
- * changed: its address is no multiple of 8, or the compiler knows that the object, or the field, is smaller. Else 64 are. (Without optimization it
- * knows little of fields, and in C++ nothing.) */
+ * changed: its address is no multiple of 8, or the compiler knows that the object, or the field, is smaller. Else 64 are. (docs/PORTING.md says which
+ * compiler knows what.) */
 
 #define NTWIN_IS_BETWEEN(at) (((uintptr_t)(at) & 7) != 0)
 #define NTWIN_IS_SMALL(at) (__builtin_object_size((const void *)(at), 1) < 8)
 
-#define NTWIN_OF_LONG_1(NAME, name, type, half, is_half) \
-    NTWIN_INLINE __attribute__((__always_inline__)) type NAME(name)(type volatile *at) \
+#define NTWIN_OF_LONG_1(NAME, name, place, type, half, is_half) \
+    NTWIN_INLINE __attribute__((__always_inline__)) type NAME(name)(place) \
     { \
         return is_half ? (type)(half)Interlocked##name((LONG volatile *)at) : (type)Interlocked##name##64((LONG64 volatile *)at); \
     }
-#define NTWIN_OF_LONG_2(NAME, name, type, half, is_half) \
-    NTWIN_INLINE __attribute__((__always_inline__)) type NAME(name)(type volatile *at, type value) \
+#define NTWIN_OF_LONG_2(NAME, name, place, type, half, is_half) \
+    NTWIN_INLINE __attribute__((__always_inline__)) type NAME(name)(place, type value) \
     { \
         return is_half ? (type)(half)Interlocked##name((LONG volatile *)at, (LONG)value) \
                        : (type)Interlocked##name##64((LONG64 volatile *)at, (LONG64)value); \
     }
-#define NTWIN_OF_LONG_3(NAME, name, type, half, is_half) \
-    NTWIN_INLINE __attribute__((__always_inline__)) type NAME(name)(type volatile *at, type value, type comparand) \
+#define NTWIN_OF_LONG_3(NAME, name, place, type, half, is_half) \
+    NTWIN_INLINE __attribute__((__always_inline__)) type NAME(name)(place, type value, type comparand) \
     { \
         return is_half ? (type)(half)Interlocked##name((LONG volatile *)at, (LONG)value, (LONG)comparand) \
                        : (type)Interlocked##name##64((LONG64 volatile *)at, (LONG64)value, (LONG64)comparand); \
     }
-#define NTWIN_OF_LONG(NAME, type, half, is_half) \
-    NTWIN_OF_LONG_1(NAME, Increment, type, half, is_half) \
-    NTWIN_OF_LONG_1(NAME, Decrement, type, half, is_half) \
-    NTWIN_OF_LONG_2(NAME, Add, type, half, is_half) \
-    NTWIN_OF_LONG_2(NAME, ExchangeAdd, type, half, is_half) \
-    NTWIN_OF_LONG_2(NAME, ExchangeSubtract, type, half, is_half) \
-    NTWIN_OF_LONG_2(NAME, Exchange, type, half, is_half) \
-    NTWIN_OF_LONG_3(NAME, CompareExchange, type, half, is_half) \
-    NTWIN_OF_LONG_2(NAME, And, type, half, is_half) \
-    NTWIN_OF_LONG_2(NAME, Or, type, half, is_half) \
-    NTWIN_OF_LONG_2(NAME, Xor, type, half, is_half)
+#define NTWIN_OF_LONG(NAME, place, type, half, is_half) \
+    NTWIN_OF_LONG_1(NAME, Increment, place, type, half, is_half) \
+    NTWIN_OF_LONG_1(NAME, Decrement, place, type, half, is_half) \
+    NTWIN_OF_LONG_2(NAME, Add, place, type, half, is_half) \
+    NTWIN_OF_LONG_2(NAME, ExchangeAdd, place, type, half, is_half) \
+    NTWIN_OF_LONG_2(NAME, ExchangeSubtract, place, type, half, is_half) \
+    NTWIN_OF_LONG_2(NAME, Exchange, place, type, half, is_half) \
+    NTWIN_OF_LONG_3(NAME, CompareExchange, place, type, half, is_half) \
+    NTWIN_OF_LONG_2(NAME, And, place, type, half, is_half) \
+    NTWIN_OF_LONG_2(NAME, Or, place, type, half, is_half) \
+    NTWIN_OF_LONG_2(NAME, Xor, place, type, half, is_half)
 
 #ifdef __cplusplus
 #define NTWIN_OVERLOADS(NAME, type) \
@@ -235,10 +235,18 @@ NTWIN_INLINE BYTE InterlockedCompareExchange128(LONG64 volatile *at, LONG64 high
 #define NTWIN_IS_HALF (NTWIN_IS_BETWEEN(at) || NTWIN_IS_SMALL(at))
 
 NTWIN_OVERLOADS(NTWIN_PLAIN, ULONG)
-NTWIN_OF_LONG(NTWIN_PLAIN, LONG64, LONG, NTWIN_IS_HALF)
-NTWIN_OF_LONG(NTWIN_PLAIN, ULONG64, ULONG, NTWIN_IS_HALF)
+NTWIN_OF_LONG(NTWIN_PLAIN, LONG64 volatile *at, LONG64, LONG, NTWIN_IS_HALF)
+NTWIN_OF_LONG(NTWIN_PLAIN, ULONG64 volatile *at, ULONG64, ULONG, NTWIN_IS_HALF)
 NTWIN_OVERLOADS(NTWIN_PLAIN64, ULONG64)
-NTWIN_OF_LONG(NTWIN_INTRINSIC, LONG64, LONG, NTWIN_IS_HALF)
+NTWIN_OF_LONG(NTWIN_INTRINSIC, LONG64 volatile *at, LONG64, LONG, NTWIN_IS_HALF)
+/* (clang knows a field where the call is made, and hands on what it knows of a place that is not volatile.) */
+#ifdef __clang__
+#define NTWIN_SIZED(type) type *const at __attribute__((__pass_object_size__(1)))
+#define NTWIN_IS_SIZED_HALF (NTWIN_IS_BETWEEN(at) || __builtin_object_size(at, 1) < 8)
+NTWIN_OF_LONG(NTWIN_PLAIN, NTWIN_SIZED(LONG64), LONG64, LONG, NTWIN_IS_SIZED_HALF)
+NTWIN_OF_LONG(NTWIN_PLAIN, NTWIN_SIZED(ULONG64), ULONG64, ULONG, NTWIN_IS_SIZED_HALF)
+NTWIN_OF_LONG(NTWIN_INTRINSIC, NTWIN_SIZED(LONG64), LONG64, LONG, NTWIN_IS_SIZED_HALF)
+#endif
 #if __cplusplus >= 201103L
 NTWIN_OVERLOADS(NTWIN_PLAIN64, long long)
 NTWIN_OVERLOADS(NTWIN_PLAIN64, unsigned long long)
@@ -248,10 +256,10 @@ NTWIN_OVERLOADS(NTWIN_PLAIN64, unsigned long long)
 #define NTWIN_ULONG(name) ntwin_ulong_##name
 #define NTWIN_HALF_LONG(name) ntwin_half_long_##name
 #define NTWIN_HALF_ULONG(name) ntwin_half_ulong_##name
-NTWIN_OF_LONG(NTWIN_LONG, long, LONG, NTWIN_IS_BETWEEN(at))
-NTWIN_OF_LONG(NTWIN_ULONG, unsigned long, ULONG, NTWIN_IS_BETWEEN(at))
-NTWIN_OF_LONG(NTWIN_HALF_LONG, long, LONG, TRUE)
-NTWIN_OF_LONG(NTWIN_HALF_ULONG, unsigned long, ULONG, TRUE)
+NTWIN_OF_LONG(NTWIN_LONG, long volatile *at, long, LONG, NTWIN_IS_BETWEEN(at))
+NTWIN_OF_LONG(NTWIN_ULONG, unsigned long volatile *at, unsigned long, ULONG, NTWIN_IS_BETWEEN(at))
+NTWIN_OF_LONG(NTWIN_HALF_LONG, long volatile *at, long, LONG, TRUE)
+NTWIN_OF_LONG(NTWIN_HALF_ULONG, unsigned long volatile *at, unsigned long, ULONG, TRUE)
 
 #define NTWIN_BY_WIDTH(name, at) \
     (__extension__ _Generic((at), \

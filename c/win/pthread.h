@@ -5,7 +5,13 @@
 #define NTWIN_GIVES_THREADS
 #include "bits/host_names.h"
 #include_next <pthread.h>
+#ifdef __cplusplus
+extern "C" {
+#endif
 #include_next <bits/sigthread.h>
+#ifdef __cplusplus
+}
+#endif
 #include "bits/host_names_end.h"
 typedef ntwin_host_pthread_t pthread_t;
 typedef ntwin_host_pthread_attr_t pthread_attr_t;

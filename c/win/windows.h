@@ -7,6 +7,6 @@
 #include "winnt.h"
 #include "winerror.h"
 #include "winbase.h"
-#include "timeapi.h"
+#include "mmsystem.h"
 
 #endif

@@ -26,12 +26,12 @@ BOOL InitializeSynchronizationBarrier(LPSYNCHRONIZATION_BARRIER barrier, LONG th
 static void wait_for_round(struct barrier *it, uint64_t round, DWORD flags)
 {
     const bool only_looks = (flags & SYNCHRONIZATION_BARRIER_FLAGS_SPIN_ONLY) != 0;
-    const uint32_t looks = (flags & SYNCHRONIZATION_BARRIER_FLAGS_BLOCK_ONLY) != 0 ? 0 : it->looks;
+    const uint32_t looks = (flags & SYNCHRONIZATION_BARRIER_FLAGS_BLOCK_ONLY) != 0 || is_scheduled ? 0 : it->looks;
     for (uint32_t i = 0; atomic_load_explicit(&it->rounds, memory_order_acquire) == round; i++) {
         if (i < looks)
             rest();
         else if (only_looks)
-            sched_yield();
+            yield_to_others();
         else
             wait_on(&it->rounds, &round, sizeof round, INFINITE, AT_BARRIER);
     }

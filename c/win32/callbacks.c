@@ -192,6 +192,7 @@ static bool is_without_thread(const struct _TP_POOL *pool)
  * comes. (The task may be gone by then.) */
 static bool try_to_submit(struct task *task)
 {
+    const DWORD error = own.last_error;
     PTP_POOL pool = task->pool;
     const struct call call = put_callback(task, SIGNALED);
     /* (With one that runs the task stays until it is known whether the thread comes.) */
@@ -204,6 +205,8 @@ static bool try_to_submit(struct task *task)
     const bool is_refused = !is_there && is_without_thread(pool) && (drop_callbacks(task) > 0 || pool == &watching_pool);
     task->running--;
     settle_task(task);
+    if (!is_refused)
+        own.last_error = error;
     return !is_refused;
 }
 

@@ -60,7 +60,7 @@ static inline bool try_section(LPCRITICAL_SECTION section)
 __attribute__((noinline)) static void wait_for_section(LPCRITICAL_SECTION section)
 {
     const ULONG_PTR spins = __atomic_load_n(&section->SpinCount, __ATOMIC_RELAXED);
-    for (ULONG_PTR i = 0; i < LOOKS_AT_LOCK || i < spins; i++) {
+    for (ULONG_PTR i = 0; (i < LOOKS_AT_LOCK || i < spins) && !is_scheduled; i++) {
         const LONG seen = __atomic_load_n(&section->LockCount, __ATOMIC_RELAXED);
         if (seen == SECTION_WANTED)
             break;
@@ -113,11 +113,11 @@ __attribute__((noinline, cold)) static void tell_of_entering(LPCRITICAL_SECTION 
     comes_after(word_of(section));
 }
 
-/* The caller's id, which is its mark from now on, where no sanitizer is told of each section. */
+/* The caller's id, which is its mark from now on, where neither a sanitizer nor a scheduler is told of each section. */
 __attribute__((noinline)) static DWORD mark_caller(void)
 {
     const DWORD id = id_of_caller();
-    if (!has_sanitizer())
+    if (!has_sanitizer() && !is_scheduled)
         own.mark = id;
     return id;
 }
@@ -127,6 +127,7 @@ __attribute__((noinline)) static void enter_unmarked(LPCRITICAL_SECTION section)
     const DWORD id = mark_caller();
     if (enter_again(section, id))
         return;
+    may_switch();
     if (try_section(section))
         own_section(section, id);
     else
@@ -156,6 +157,7 @@ BOOL TryEnterCriticalSection(LPCRITICAL_SECTION section)
     const DWORD id = own.mark != 0 ? own.mark : mark_caller();
     if (enter_again(section, id))
         return TRUE;
+    may_switch();
     if (!try_section(section))
         return FALSE;
     own_section(section, id);

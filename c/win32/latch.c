@@ -35,6 +35,8 @@ static inline void give_latch(_Atomic uint32_t *latch)
 /* Wakes up to so many threads of those that sleep on the word among these. */
 static void wake_among(_Atomic uint32_t *word, int count, uint32_t bits)
 {
+    if (woke_by_schedule(word, count, bits))
+        return;
     const int error = errno;
     syscall(SYS_futex, word, FUTEX_WAKE_BITSET_PRIVATE, count, NULL, NULL, bits);
     errno = error;

@@ -100,7 +100,7 @@ NTSTATUS NtDelayExecution(BOOLEAN alertable, PLARGE_INTEGER interval)
 
 NTSTATUS NtYieldExecution(void)
 {
-    sched_yield();
+    yield_to_others();
     return STATUS_SUCCESS;
 }
 

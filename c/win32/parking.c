@@ -1,6 +1,6 @@
 /* SPDX-License-Identifier: MIT OR Apache-2.0 */
 /* ---- Threads that wait at an address, the first that came first. Each sleeps on a word of its own, and is woken by itself alone. The addresses
- * are spread over lists; each list has a latch. */
+ * are spread over lists; each list has a latch. (`nt_protocols` has laws of this: its specs/Parking.antt names the functions below.) */
 
 enum { PARKING_LISTS = 256, AWAKENED_AT_ONCE = 64, UNPARKED = 0, PARKED = 1, RETRIES = 64 };
 
@@ -160,6 +160,7 @@ static BOOL wait_on(volatile void *address, const void *compare, SIZE_T size, DW
 {
     if (size != 1 && size != 2 && size != 4 && size != 8)
         return fail(ERROR_INVALID_PARAMETER);
+    may_switch();
     if (!is_same(address, compare, size))
         return TRUE;
     const uint64_t moment = moment_after(ms);
@@ -183,6 +184,7 @@ BOOL WaitOnAddress(volatile VOID *address, PVOID compare, SIZE_T size, DWORD ms)
 
 static void wake_by_address(PVOID address, uint32_t most)
 {
+    may_switch();
     atomic_thread_fence(memory_order_seq_cst);
     if (atomic_load_explicit(&parking_of(address)->count, memory_order_relaxed) != 0)
         unpark(address, most);

@@ -56,6 +56,8 @@ static struct _TP_POOL watching_pool = { .most = WATCHES }, usual_pool = { .most
 static PTP_POOL pools = &usual_pool;
 static _Atomic uint32_t keeper_calls; /* how often the keeper of timers was called: the word that it sleeps on (timers.c) */
 
+static uint32_t keep_time(void);
+
 /* A callback of the caller's has ended by ExitThread. */
 static _Thread_local bool is_to_exit __attribute__((tls_model("initial-exec")));
 

@@ -18,6 +18,17 @@ static void add_task(struct task *task, PVOID context, PTP_CALLBACK_ENVIRON envi
     }
 }
 
+/* Room for a task of this size, whose callback the program gives or not. It is there only if the keeper of timers is, which tries again where the pool is
+ * refused a thread: so its callbacks come, whatever the program waits on. Null, with the last error set, where there is none. */
+static void *new_task(bool has_callback, size_t size)
+{
+    const uint32_t refused = has_callback ? keep_time() : ERROR_INVALID_PARAMETER;
+    void *made = refused == 0 ? calloc(1, size) : NULL;
+    if (made == NULL)
+        fail(refused != 0 ? refused : ERROR_NOT_ENOUGH_MEMORY);
+    return made;
+}
+
 static void open_task(struct task *task, PVOID context, PTP_CALLBACK_ENVIRON environment)
 {
     take_latch(&pools_latch);
@@ -186,11 +197,9 @@ static void call_simple(struct task *task, PTP_CALLBACK_INSTANCE instance, uint3
 
 PTP_WORK CreateThreadpoolWork(PTP_WORK_CALLBACK callback, PVOID context, PTP_CALLBACK_ENVIRON environment)
 {
-    PTP_WORK work = callback != NULL ? calloc(1, sizeof *work) : NULL;
-    if (work == NULL) {
-        fail(callback == NULL ? ERROR_INVALID_PARAMETER : ERROR_NOT_ENOUGH_MEMORY);
+    PTP_WORK work = new_task(callback != NULL, sizeof *work);
+    if (work == NULL)
         return NULL;
-    }
     work->task.call = call_work;
     work->task.end = free_task;
     work->callback = callback;
@@ -213,12 +222,12 @@ void CloseThreadpoolWork(PTP_WORK work)
     close_task(&work->task, NULL);
 }
 
-/* Submits one callback; FALSE where memory or the first thread is refused. */
+/* Submits one callback; FALSE where there is none, or memory or a thread that is needed is refused. */
 static BOOL submit_simple(struct simple what, PVOID context, PTP_CALLBACK_ENVIRON environment)
 {
-    struct simple *simple = malloc(sizeof *simple);
+    struct simple *simple = new_task(what.callback != NULL || what.function != NULL, sizeof *simple);
     if (simple == NULL)
-        return fail(ERROR_NOT_ENOUGH_MEMORY);
+        return FALSE;
     *simple = what;
     simple->task.call = call_simple;
     simple->task.end = free_task;
@@ -230,16 +239,12 @@ static BOOL submit_simple(struct simple what, PVOID context, PTP_CALLBACK_ENVIRO
 
 BOOL TrySubmitThreadpoolCallback(PTP_SIMPLE_CALLBACK callback, PVOID context, PTP_CALLBACK_ENVIRON environment)
 {
-    if (callback == NULL)
-        return fail(ERROR_INVALID_PARAMETER);
     return submit_simple((struct simple){ .callback = callback }, context, environment);
 }
 
 BOOL QueueUserWorkItem(LPTHREAD_START_ROUTINE function, PVOID context, ULONG flags)
 {
     (void)flags;
-    if (function == NULL)
-        return fail(ERROR_INVALID_PARAMETER);
     return submit_simple((struct simple){ .function = function }, context, NULL);
 }
 

@@ -105,7 +105,7 @@ static pid_t task_of(HANDLE thread)
         if (task != 0)
             return task;
         /* (It was just created, and has no number yet.) */
-        sched_yield();
+        yield_to_others();
     }
 }
 
@@ -243,66 +243,6 @@ BOOL IsProcessorFeaturePresent(DWORD feature)
 #endif
     (void)feature;
     return FALSE;
-}
-
-/* A number that the system has of a processor, or -1. */
-static int told_of_processor(int processor, const char *what)
-{
-    char path[96];
-    int number = -1;
-    snprintf(path, sizeof path, "/sys/devices/system/cpu/cpu%d/topology/%s", processor, what);
-    FILE *file = fopen(path, "re");
-    if (file != NULL) {
-        if (fscanf(file, "%d", &number) != 1)
-            number = -1;
-        fclose(file);
-    }
-    return number;
-}
-
-/* Notes the processors of each core, or of each package, in `found`, in the order of their first ones. Answers how many there are. */
-static DWORD share_processors(bool by_core, DWORD_PTR found[MAXIMUM_PROCESSORS])
-{
-    int packages[MAXIMUM_PROCESSORS], cores[MAXIMUM_PROCESSORS];
-    DWORD count = 0;
-    DWORD_PTR rest = mask_of(sysconf(_SC_NPROCESSORS_ONLN));
-    for (int i = 0; i < MAXIMUM_PROCESSORS; i++) {
-        packages[i] = (rest >> i & 1) != 0 ? told_of_processor(i, "physical_package_id") : -1;
-        cores[i] = (rest >> i & 1) != 0 ? told_of_processor(i, "core_id") : -1;
-    }
-    for (int i = 0; i < MAXIMUM_PROCESSORS; i++) {
-        if ((rest >> i & 1) == 0)
-            continue;
-        found[count] = (DWORD_PTR)1 << i;
-        for (int j = i + 1; j < MAXIMUM_PROCESSORS; j++)
-            if ((rest >> j & 1) != 0 && packages[i] == packages[j] && (!by_core || (cores[i] == cores[j] && cores[i] >= 0)))
-                found[count] |= (DWORD_PTR)1 << j;
-        rest &= ~found[count++];
-    }
-    return count;
-}
-
-BOOL GetLogicalProcessorInformation(PSYSTEM_LOGICAL_PROCESSOR_INFORMATION buffer, PDWORD length)
-{
-    DWORD_PTR cores[MAXIMUM_PROCESSORS], packages[MAXIMUM_PROCESSORS];
-    const DWORD core_count = share_processors(true, cores), package_count = share_processors(false, packages);
-    const DWORD size = (DWORD)((core_count + package_count + 1) * sizeof *buffer), room = *length;
-    *length = size;
-    if (room < size)
-        return fail(ERROR_INSUFFICIENT_BUFFER);
-    memset(buffer, 0, size);
-    for (DWORD i = 0; i < core_count; i++, buffer++) {
-        buffer->ProcessorMask = cores[i];
-        buffer->Relationship = RelationProcessorCore;
-        buffer->ProcessorCore.Flags = (cores[i] & (cores[i] - 1)) != 0;
-    }
-    for (DWORD i = 0; i < package_count; i++, buffer++) {
-        buffer->ProcessorMask = packages[i];
-        buffer->Relationship = RelationProcessorPackage;
-    }
-    buffer->ProcessorMask = mask_of(sysconf(_SC_NPROCESSORS_ONLN));
-    buffer->Relationship = RelationNumaNode;
-    return TRUE;
 }
 
 DWORD SetThreadIdealProcessor(HANDLE thread, DWORD processor)

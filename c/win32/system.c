@@ -11,7 +11,7 @@ int ntwin_is_proved(void)
 
 BOOL SwitchToThread(void)
 {
-    sched_yield();
+    yield_to_others();
     return TRUE;
 }
 

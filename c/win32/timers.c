@@ -11,11 +11,11 @@ struct _TP_TIMER {
     bool in_thread, is_over;
 };
 
-/* Under the latch of the pools. */
+/* Under the latch of the pools, but for `is_kept`. */
 static struct {
     PTP_TIMER *heap;                     /* from place 1 on */
     size_t count, made, room;            /* there is room for all that were made */
-    bool is_kept;                        /* a thread was started that keeps the time, */
+    _Atomic bool is_kept;                /* a thread was started that keeps the time, */
     bool has_keeper;                     /* and it has begun to */
 } timers;
 
@@ -147,10 +147,7 @@ static bool make_room(void)
 
 static bool is_time_kept(void)
 {
-    take_latch(&pools_latch);
-    const bool is_kept = timers.is_kept;
-    give_latch(&pools_latch);
-    return is_kept;
+    return atomic_load_explicit(&timers.is_kept, memory_order_acquire);
 }
 
 /* Sees to it that a thread keeps the time. Answers 0, or why none does. */
@@ -163,10 +160,8 @@ static uint32_t keep_time(void)
         const uint32_t refused = own.last_error;
         return is_time_kept() ? 0 : refused;
     }
+    atomic_store_explicit(&timers.is_kept, true, memory_order_release);
     CloseHandle(thread);
-    take_latch(&pools_latch);
-    timers.is_kept = true;
-    give_latch(&pools_latch);
     return 0;
 }
 

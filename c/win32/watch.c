@@ -152,13 +152,11 @@ static bool is_waitable(HANDLE object)
 
 BOOL RegisterWaitForSingleObject(PHANDLE wait, HANDLE object, WAITORTIMERCALLBACK callback, PVOID context, ULONG ms, ULONG flags)
 {
-    if (callback == NULL)
-        return fail(ERROR_INVALID_PARAMETER);
-    if (!is_waitable(object))
+    if (callback != NULL && !is_waitable(object))
         return FALSE;
-    struct registered *made = calloc(1, sizeof *made);
+    struct registered *made = new_task(callback != NULL, sizeof *made);
     if (made == NULL)
-        return fail(ERROR_NOT_ENOUGH_MEMORY);
+        return FALSE;
     made->task.call = call_registered;
     made->task.end = free_task;
     made->task.stop = stop_watch;
@@ -202,11 +200,9 @@ static void call_wait(struct task *task, PTP_CALLBACK_INSTANCE instance, uint32_
 
 PTP_WAIT CreateThreadpoolWait(PTP_WAIT_CALLBACK callback, PVOID context, PTP_CALLBACK_ENVIRON environment)
 {
-    PTP_WAIT wait = callback != NULL ? calloc(1, sizeof *wait) : NULL;
-    if (wait == NULL) {
-        fail(callback == NULL ? ERROR_INVALID_PARAMETER : ERROR_NOT_ENOUGH_MEMORY);
+    PTP_WAIT wait = new_task(callback != NULL, sizeof *wait);
+    if (wait == NULL)
         return NULL;
-    }
     wait->task.call = call_wait;
     wait->task.end = free_task;
     wait->task.stop = stop_watch;

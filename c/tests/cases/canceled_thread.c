@@ -35,12 +35,17 @@ static DWORD waits(LPVOID is_asynchronous)
 
 static HANDLE cancel_one(LPVOID is_asynchronous)
 {
-    begins = 0;
-    HANDLE thread = CreateThread(NULL, 0, waits, is_asynchronous, 0, NULL);
-    await(&begins);
-    rest_ms(30);
-    pthread_cancel(waiter);
-    return thread;
+    for (;;) {
+        begins = 0;
+        HANDLE thread = CreateThread(NULL, 0, waits, is_asynchronous, 0, NULL);
+        await(&begins);
+        const double began = now_ms();
+        rest_ms(30);
+        pthread_cancel(waiter);
+        /* (Where the machine stood still meanwhile the wait may have timed out before.) */
+        if (is_asynchronous == NULL || now_ms() - began < 100 || WaitForSingleObject(thread, 1000) == WAIT_TIMEOUT)
+            return thread;
+    }
 }
 
 static VOID CALLBACK comes(LPVOID unused, DWORD low, DWORD high)

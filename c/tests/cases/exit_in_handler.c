@@ -11,9 +11,18 @@ static void ends(int signal)
     exit(0);
 }
 
+static void block_end(int how)
+{
+    sigset_t end;
+    sigemptyset(&end);
+    sigaddset(&end, SIGTERM);
+    must(sigprocmask(how, &end, NULL) == 0);
+}
+
 static void call_until_signaled(void)
 {
     signal(SIGTERM, ends);
+    block_end(SIG_UNBLOCK);
     HANDLE event = CreateEvent(NULL, FALSE, FALSE, NULL);
     for (;;) {
         SetEvent(event);
@@ -24,6 +33,7 @@ static void call_until_signaled(void)
 int main(void)
 {
     pid_t children[CHILDREN];
+    block_end(SIG_BLOCK); /* (until a child has its handler) */
     for (int i = 0; i < CHILDREN; i++) {
         children[i] = fork();
         must(children[i] >= 0);

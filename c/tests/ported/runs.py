@@ -248,6 +248,27 @@ def winpthreads(shop, source):
     return *counted(failed), WINPTHREADS_LEFT_OUT
 
 
+# (So SDL's calls have their own names, and its memory is the C library's.)
+SDL2 = "-D__clang_analyzer__ -DSDL_MAIN_HANDLED -DHAVE_MALLOC -Iinclude -Isrc"
+SDL2_FILES = (
+    "src/thread/windows/*.c src/thread/generic/SDL_syscond.c src/thread/SDL_thread.c src/atomic/*.c src/timer/windows/SDL_systimer.c "
+    "src/timer/SDL_timer.c src/SDL_error.c src/SDL_hints.c src/stdlib/SDL_*.c"
+)
+# The words that each takes.
+SDL2_TESTS = {"testatomic": [], "testsem": ["5"], "testthread": [], "torturethread": []}
+
+
+def sdl2(shop, source):
+    """Its tests of threads, each a program."""
+    flags, failed = shop.flags("sdl2", SDL2), {}
+    library = shop.objects("sdl2", source, SDL2_FILES, flags) + shop.objects("sdl2", source, [f"{shop.ported}/sdl2.c"], flags)
+    for test, words in SDL2_TESTS.items():
+        program = f"{shop.room}/{test}"
+        made = shop.objects("sdl2", source, [f"test/{test}.c"], flags)
+        failed[test] = shop.linked(program, [*made, *library], spare=True) or shop.ran(program, *words)
+    return *counted(failed), {"testlock": "an end, which it has by a signal alone"}
+
+
 ZSTD = "-DZSTD_MULTITHREAD -DZSTD_DISABLE_ASM -Ilib -Ilib/common -Iprograms"
 ZSTD_FILES = "lib/common/*.c lib/compress/*.c lib/decompress/*.c"
 XZ = (
@@ -277,6 +298,7 @@ RUNS = {
         "freerdp2",
         programs_of("winpr", WINPR_TESTS, WINPR, "winpr/libwinpr/interlocked/interlocked.c winpr/libwinpr/sysinfo/sysinfo.c", WINPR_MAIN, left_out=WINPR_LEFT_OUT, own="winpr.c"),
     ),
+    "SDL2: its tests of threads": Run("libsdl2", sdl2),
     "winpthreads: its tests": Run("mingw-w64", winpthreads),
     "Boost.Thread: its tests": Run("boost1.74", boost),
 }
