@@ -7,6 +7,7 @@
 #   make bench                 bench/core and bench/sizes, over proved programs; bench/README.md has more
 #   make install PREFIX=DIR    headers, libraries, man pages, and files for pkg-config and cmake; DESTDIR comes before DIR
 #   make uninstall PREFIX=DIR  takes them away
+#   make dist                  an archive and Debian packages in dist, which need no kit, of what is proved; UNPROVED=1: of what is there
 #   make clean                 removes all that was built here, proved or not
 #   make help                  prints these lines
 
@@ -49,11 +50,14 @@ install:
 uninstall:
 	$(MAKE) --no-print-directory -C c uninstall $(PLACES)
 
+dist:
+	@release/make $(if $(UNPROVED),--unproved)
+
 clean:
 	$(MAKE) --no-print-directory -C c clean
-	rm -rf out crates/*/out
+	rm -rf out dist crates/*/out
 
 help:
 	@sed -n 's/^#   //p' Makefile
 
-.PHONY: all library programs quick check check-all bench install uninstall clean help
+.PHONY: all library programs quick check check-all bench install uninstall dist clean help
