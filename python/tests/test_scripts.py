@@ -6,9 +6,10 @@ import pytest
 from play import transcript
 
 TOP = pathlib.Path(__file__).resolve().parents[2]
+FAULTY = {it.partition(": ")[0] for it in (TOP / "tests/scripts/errors").read_text().splitlines()}
 SCRIPTS = [
     it for it in sorted([*TOP.glob("tests/scripts/*/*.nts"), *TOP.glob("examples/*.nts")])
-    if it.with_suffix(".transcript").exists() and not it.with_suffix(".errors").exists()
+    if it.with_suffix(".transcript").exists() and f"{it.parent.name}/{it.stem}" not in FAULTY
 ]
 
 

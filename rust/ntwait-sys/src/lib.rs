@@ -3,7 +3,7 @@
 #![no_std]
 #![allow(non_camel_case_types)]
 
-use core::ffi::c_void;
+use core::ffi::{c_char, c_void};
 use core::mem::size_of;
 
 /// A handle: room for a dispatcher, and whether there is one.
@@ -161,6 +161,12 @@ pub const NT_MAXIMUM_HANDLES: u32 = 65536;
 pub const NT_GREATEST_MOMENT: u64 = 1 << 62;
 
 extern "C" {
+    pub fn nt_version() -> *const c_char;
+    pub fn nt_error_name(error: u32) -> *const c_char;
+    pub fn nt_status_name(status: u32) -> *const c_char;
+    pub fn nt_new(threads: u32) -> *mut nt;
+    pub fn nt_new_lasting(threads: u32) -> *mut nt;
+    pub fn nt_free(nt: *mut nt);
     pub fn nt_room() -> usize;
     pub fn nt_open(nt: *mut nt, threads: u32) -> u32;
     pub fn nt_open_lasting(nt: *mut nt, threads: u32) -> u32;
@@ -251,6 +257,16 @@ extern "C" {
         who: u32,
         signal: u32,
         object: u32,
+        ms: u32,
+        alertable: bool,
+        reply: *mut nt_reply,
+    ) -> u32;
+    pub fn nt_wait(
+        nt: *mut nt,
+        who: u32,
+        handles: *const u32,
+        count: usize,
+        all: bool,
         ms: u32,
         alertable: bool,
         reply: *mut nt_reply,
