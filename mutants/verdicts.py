@@ -13,7 +13,8 @@ from kept import JUDGES, bytes_of, sum_of, sum_of_kit
 from sources import BETWEEN, blocks_in
 from words import words_of
 
-HERE = os.path.dirname(os.path.realpath(__file__))
+# The code that tries mutants and judges them, read once as well.
+JUDGES_OF_MUTANTS = [*JUDGES, *(bytes_of(it) for it in files_below(os.path.dirname(os.path.realpath(__file__))) if it.endswith(".py"))]
 
 
 def without_comments(text, mark):
@@ -79,8 +80,7 @@ def below(crate):
 def sum_of_own(crate):
     """The sum of what a verdict rests on beside contracts and the mutant, and the words of the crate's texts."""
     texts = [part for path in crate.files() for part in (path, crate.text(path))]
-    judges = [bytes_of(it) for it in [*JUDGES, *files_below(HERE)] if it.endswith(".py")]
-    return sum_of(sum_of_kit(), *judges, crate.name, *texts), frozenset().union(*(words_in(crate.text(path)) for path in crate.files()))
+    return sum_of(sum_of_kit(), *JUDGES_OF_MUTANTS, crate.name, *texts), frozenset().union(*(words_in(crate.text(path)) for path in crate.files()))
 
 
 @functools.lru_cache(maxsize=None)

@@ -26,8 +26,6 @@ MOST, SPARE, MOST_PASSED = 16_000_000_000, 5_000_000_000, 20_000
 OLD = 6 * 3600
 # What words of the environment that a kit heeds begin with.
 HEEDED = ("RT_", "RATTLE_", "ANTT_")
-# The code here that judges whether a crate is proved and passes.
-JUDGES = [f"{TOP}/proving/{it}.py" for it in ("command", "crates", "kept", "proofs", "rooms")]
 # The file by which a kit notes when its work was used.
 USED = "rattle-last-used"
 
@@ -43,6 +41,10 @@ def bytes_of(path):
     with contextlib.suppress(FileNotFoundError), open(path, "rb") as file:
         return file.read()
     return b""
+
+
+# The code here that judges whether a crate is proved and passes. It is read once, as it is loaded: what is merged while this runs judges nothing here.
+JUDGES = [bytes_of(f"{TOP}/proving/{it}.py") for it in ("command", "crates", "kept", "proofs", "rooms")]
 
 
 def sum_of(*parts):
@@ -75,7 +77,7 @@ def sum_of_kit_of(rt):
 def sum_of_crate(crate):
     """The sum of all that a crate's verdict rests on: its files and its line, those of each crate below it, HANDLES, the kit, and what judges."""
     texts = [part for it in [*crate.below(), crate] for part in (it.line, sum_of_files(it.folder))]
-    return sum_of(sum_of_kit(), *map(bytes_of, JUDGES), bytes_of(f"{crate.folder}/../../HANDLES"), *texts)
+    return sum_of(sum_of_kit(), *JUDGES, bytes_of(f"{crate.folder}/../../HANDLES"), *texts)
 
 
 def files_in(out, without=()):

@@ -73,6 +73,18 @@ NOT_REFUSED = [(0, PROVED), (0, REFUSED), (1, ""), (2, REFUSED), (3, REFUSED), (
 # What must not pass as a step.
 NO_STEPS = ["echo 3 passed, 0 failed; exit 1", "echo 3 passed, 0 failed; kill -9 $$", "echo 3 passed, 1 failed", "echo 2 passed, 0 failed"]
 NO_STEPS += ["echo 0 passed, 0 failed", "exit 2"]
+# A run that prints the sums of a crate and of its mutant, before and after a merge of the code that judges them.
+MERGED = """import sys
+sys.dont_write_bytecode = True
+sys.path[:0] = [f"copy/{it}" for it in ("proving", "mutants", "launcher")]
+import edits, kept, verdicts
+for merges in (True, False):
+    crate, mutants = next(iter(edits.edits_in("tree")[0].items()))
+    print(kept.sum_of_crate(crate), verdicts.sum_of_mutant(mutants[0]))
+    for it in ("proving/proofs.py", "mutants/judging.py") if merges else ():
+        with open(f"copy/{it}", "a") as file:
+            file.write("# merged")
+"""
 # What the gate calls where it runs as a whole, beside the fake rt and Python: other tools are lacking there.
 CALLED = ("sh", "env", "git", "mkdir", "chmod")
 
@@ -171,6 +183,17 @@ def kept(folder):
     yield ran(folder)[::3] == (5, 4)
 
 
+def merged(folder):
+    """What a run kept has the sum of the code that judged it, whatever is merged while it runs; the next run's is another."""
+    write_tree(f"{folder}/tree")
+    for it in ("proving", "mutants", "launcher"):
+        shutil.copytree(f"{TOP}/{it}", f"{folder}/copy/{it}", ignore=shutil.ignore_patterns("__pycache__"))
+    how = {"cwd": folder, "stdout": subprocess.PIPE, "check": True, "text": True}
+    lines = [subprocess.run([sys.executable, "-c", MERGED], **how).stdout.splitlines() for _ in range(2)]
+    yield len(lines[0]) == 2 and lines[0][0] == lines[0][1]
+    yield not {*lines[0][0].split()} & {*lines[1][0].split()}
+
+
 def taken(folder):
     """A step that passed is taken over the same files, and else run again; one that failed is run again."""
     kept_before, words = Kept(lambda _: None), ["sh", "-c", "echo x >> ../ran; echo 3 passed, 0 failed; exit $(cat tests/status)"]
@@ -207,7 +230,7 @@ def as_a_whole(folder):
         os.makedirs(os.path.dirname(f"{folder}/copy/{os.path.relpath(it, TOP)}"), exist_ok=True)
         shutil.copy(it, f"{folder}/copy/{os.path.relpath(it, TOP)}")
     write(f"{folder}/copy/proving/scenes.py", "from telling import Step\n\n\ndef run(_):\n    return Step(1)\n")
-    for it in ("python/test", "rust/test"):
+    for _, it in steps.FOR_OTHERS + steps.RELEASE:
         write(f"{folder}/copy/{it}", "#!/bin/sh\necho 'no such language here'\nexit 1\n", 0o755)
     for it in CALLED:
         os.symlink(shutil.which(it), f"{folder}/bin/{it}")
@@ -224,7 +247,7 @@ def as_a_whole(folder):
 def run(progress):
     """Runs the scenes, each in a folder of its own, with nothing of this machine's kit and of what is kept."""
     passed, failed = 0, []
-    for scene in (judged, not_proved, kept, taken, told, as_a_whole):
+    for scene in (judged, not_proved, kept, merged, taken, told, as_a_whole):
         with tempfile.TemporaryDirectory() as folder, contextlib.ExitStack() as stack:
             write(f"{folder}/bin/rt", RT, 0o755)
             write(f"{folder}/called.number", "9\n")

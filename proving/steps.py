@@ -204,10 +204,20 @@ def command(top, *words):
     return functools.partial(counted, list(words), top)
 
 
-def languages(top, tell):
-    """The tests of what is made for other languages, over the library for C as it was built last. One whose language is lacking is told, and left out."""
+# What needs tools that not each machine has, and the test of each.
+FOR_OTHERS = (
+    ("the package for Python", "python/test"),
+    ("the crates for Rust", "rust/test"),
+    ("the emulator of Windows programs", "examples/emulator/test"),
+    ("the drawings, as viewers show them", "tests/pictures"),
+)
+RELEASE = (("a release, where no kit is", "release/test"),)
+
+
+def for_others(top, tell, tests=FOR_OTHERS):
+    """The tests of other languages, over the library for C as it was built last, and of viewers. One whose tools are lacking is told, and left out."""
     found = []
-    for name, test in (("the package for Python", "python/test"), ("the crates for Rust", "rust/test")):
+    for name, test in tests:
         said = run([f"{top}/{test}", "--lacks"], top)
         if said.status:
             tell(f"gate: {name}: not tried: {said.text.strip()}")
