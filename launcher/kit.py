@@ -30,7 +30,7 @@ def judged():
     if not rt:
         return IS_LACKING, f"no command rt was found; {wanted}"
     try:
-        said = subprocess.run([rt, "version"], stdin=subprocess.DEVNULL, capture_output=True, text=True, timeout=60, check=False).stdout
+        said = subprocess.run([rt, "version"], stdin=subprocess.DEVNULL, capture_output=True, text=True, timeout=300, check=False).stdout
     except (OSError, subprocess.TimeoutExpired, ValueError) as error:
         return IS_LACKING, f"{rt} does not run ({error}); {wanted}"
     found = re.search(r"\blogic (\w+)", said)

@@ -7,7 +7,7 @@ import subprocess
 import time
 
 # How long a page may take to answer, in seconds.
-PATIENCE = 60
+PATIENCE = 600
 # What a key sends beside its name.
 CODES = {"Escape": 27, "+": 187, "j": 74, "k": 75}
 

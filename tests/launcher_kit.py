@@ -73,13 +73,13 @@ class Scratch:
         """The exit status, what was written, and what the kit was asked for by this run."""
         before = self.asked()
         ran = self.started(*words, who=who)
-        written = ran.communicate(timeout=60)[0].decode()
+        written = ran.communicate(timeout=600)[0].decode()
         return ran.returncode, written, self.asked()[len(before) :]
 
     def says(self, *words, **environment):
         """The exit status, and what was said by the launcher."""
         ran = self.started(*words, **environment)
-        said = ran.communicate(timeout=60)[1].decode().splitlines()
+        said = ran.communicate(timeout=600)[1].decode().splitlines()
         return ran.returncode, [it for it in said if it.startswith("./ntrun: ")]
 
     def asked(self):

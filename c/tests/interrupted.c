@@ -10,7 +10,7 @@
 #define counted counted_checks /* (ntwin.c has another.) */
 #include "check.h"
 
-enum { SECONDS_EACH_TIME = 20 };
+enum { SECONDS_EACH_TIME = 120 };
 
 static HANDLE mine, others, third;
 static LONG has_set, sets, refusals;

@@ -21,7 +21,7 @@ static bool is_passed_over(void)
     return !is_of_lock && (lock_is(TAKEN) || lock_is(WANTED) || (own.seat != NULL && inside_of(own.seat) != 0));
 }
 
-enum { PAGE = 4096, SECONDS_EACH_TIME = 20 };
+enum { PAGE = 4096, SECONDS_EACH_TIME = 120 };
 
 /* What the pairs work on, in a page of its own, which is taken away when it is freed. */
 static struct shared {

@@ -86,7 +86,7 @@ static void try_pair(const char *name, act *prepare, act *call, act *other, act 
     long touched = 0;
     pair = name;
     for (number = 0; came; number++) {
-        alarm(20);
+        alarm(120);
         touches = 0;
         prepare();
         came = step(call, other, number);

@@ -7,7 +7,7 @@
 /* Waits until the count is this one; then that it stays so for a while. */
 static inline LONG settled(LONG *count, LONG wanted)
 {
-    for (int i = 0; i < 2000 && ReadAcquire(count) < wanted; i++)
+    for (int i = 0; i < 60000 && ReadAcquire(count) < wanted; i++)
         Sleep(1);
     Sleep(10);
     return ReadAcquire(count);

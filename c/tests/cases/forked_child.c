@@ -22,7 +22,7 @@ static int forked(int (*does)(void))
     const pid_t child = fork();
     must(child >= 0);
     if (child == 0) {
-        alarm(5);
+        alarm(60);
         _exit(does());
     }
     must(waitpid(child, &status, 0) == child);

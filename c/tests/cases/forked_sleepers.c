@@ -17,7 +17,7 @@ static int forked(int (*does)(void))
     const pid_t child = fork();
     must(child >= 0);
     if (child == 0) {
-        alarm(5);
+        alarm(60);
         _exit(does());
     }
     must(waitpid(child, &status, 0) == child);
@@ -150,7 +150,7 @@ static void on_signal(int signal)
     (void)signal;
     forked_by_handler = fork();
     if (forked_by_handler == 0) {
-        alarm(5);
+        alarm(60);
         must(pthread_create(&thread, NULL, wakes_the_handlers, NULL) == 0);
     }
 }
