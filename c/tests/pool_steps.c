@@ -238,7 +238,7 @@ static void with_queue(void)
 {
     open_pool();
     first = CreateThreadpoolWork(run, NULL, &environment);
-    pool->threads = 1;
+    pool->threads = 1, pool->expected = 1;
     SubmitThreadpoolWork(first);
 }
 

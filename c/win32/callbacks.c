@@ -184,7 +184,7 @@ static void call_back(struct task *task, uint32_t outcome, bool in_thread)
 /* Whether a callback in the queue has no thread that could come to it, under the latch. (Each that watches an object needs one to itself.) */
 static bool is_without_thread(const struct _TP_POOL *pool)
 {
-    const uint32_t threads = pool->threads - pool->starting;
+    const uint32_t threads = known_threads(pool);
     return pool == &watching_pool ? pool->tasks > threads : threads == 0;
 }
 
@@ -210,10 +210,11 @@ static bool try_to_submit(struct task *task)
     return !is_refused;
 }
 
-/* Whether the caller has to go, under the latch: its callback asked for that, or the pool has had its maximum lowered. */
+/* Whether the caller has to go, under the latch: its callback asked for that, or more are at work than the pool's maximum. (One that is only being
+ * started does no work for which the caller could go.) */
 static bool is_to_leave(const struct _TP_POOL *pool)
 {
-    return is_to_exit || pool->threads > pool->most;
+    return is_to_exit || pool->working > pool->most;
 }
 
 /* Waits for work, under the latch. Answers whether the thread goes on. */
@@ -233,6 +234,7 @@ static void leave_pool(PTP_POOL pool)
 {
     struct call call = { 0 };
     pool->threads--;
+    pool->working--;
     const bool is_missed = pool->first != NULL || (!pool->is_closed && pool->threads < pool->least), ends = leave_pools(pool);
     if (is_missed)
         call = call_for_thread(pool);
@@ -248,6 +250,8 @@ static DWORD WINAPI work_in_pool(LPVOID at)
     PTP_POOL pool = at;
     uint32_t outcome;
     take_latch(&pools_latch);
+    pool->working++;
+    pool->expected--;
     do {
         for (struct task *task; !is_to_leave(pool) && (task = take_callback(pool, &outcome)) != NULL;) {
             give_latch(&pools_latch);

@@ -14,7 +14,9 @@ struct _TP_POOL {
     struct task *first, *last;   /* the queue */
     uint32_t waiting_callbacks;  /* of all tasks in it */
     uint32_t threads, idle, most, least;
-    uint32_t starting;           /* how many of the threads the system may yet refuse */
+    uint32_t starting;           /* how many of the threads have who starts them still at it */
+    uint32_t working;            /* how many have begun, and have not left */
+    int32_t expected;            /* how many the system gave, less how many have ever begun: which may come first */
     uint32_t lacking;            /* how many it refused that the pool still wants */
     uint32_t tasks;              /* how many are there */
     _Atomic uint32_t calls;      /* how often a thread was called for: the word that idle ones sleep on */
@@ -81,6 +83,13 @@ static bool leave_pools(PTP_POOL pool)
 
 static DWORD WINAPI work_in_pool(LPVOID pool);
 
+/* How many of its threads the system refuses no more, under the latch. (Of two that it gave one may hide another, while who started the one that has
+ * begun is held up.) */
+static uint32_t known_threads(const struct _TP_POOL *pool)
+{
+    return pool->working + (pool->expected > 0 ? (uint32_t)pool->expected : 0);
+}
+
 /* Whether it is to have one thread more, under the latch. */
 static bool wants_thread(const struct _TP_POOL *pool)
 {
@@ -101,6 +110,7 @@ static bool start_in_pool(PTP_POOL pool)
     HANDLE thread = CreateThread(NULL, 0, work_in_pool, pool, 0, NULL);
     take_latch(&pools_latch);
     pool->starting--;
+    pool->expected += thread != NULL;
     if (thread == NULL) {
         pool->threads--;
         pool->lacking += wants_thread(pool);
@@ -127,7 +137,7 @@ struct call {
 /* (Where the system may yet refuse each thread that the pool has, this is one more: that it is too many is seen later.) */
 static struct call call_for_thread(PTP_POOL pool)
 {
-    const struct call call = { pool, (PVOID)&pool->calls, wants_thread(pool) || pool->threads == pool->starting };
+    const struct call call = { pool, (PVOID)&pool->calls, wants_thread(pool) || known_threads(pool) == 0 };
     if (call.is_new)
         count_new_thread(pool);
     atomic_fetch_add_explicit(&pool->calls, 1, memory_order_relaxed);
