@@ -264,14 +264,14 @@ static DWORD WINAPI work_in_pool(LPVOID at)
 }
 
 /* Waits until the task has no callback, and tries meanwhile to have threads that were refused; first drops callbacks that have not begun, where
- * `cancels`. Answers how many were dropped. */
+ * `cancels`. Answers how many were dropped. (In a child that was forked beside others no callback ends any more, and none is waited for.) */
 static uint32_t wait_for_task(struct task *task, bool cancels)
 {
     const DWORD error = own.last_error;
     bool is_refused = false;
     take_latch(&pools_latch);
     const uint32_t dropped = cancels ? drop_callbacks(task) : 0;
-    while (task->running > 0 || to_come(task) > 0) {
+    while (!process.is_forked && (task->running > 0 || to_come(task) > 0)) {
         if (!is_refused && task->pool->lacking > 0) {
             is_refused = !bring_lacking(task->pool);
             continue;

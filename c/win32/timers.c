@@ -150,9 +150,11 @@ static bool is_time_kept(void)
     return atomic_load_explicit(&timers.is_kept, memory_order_acquire);
 }
 
-/* Sees to it that a thread keeps the time. Answers 0, or why none does. */
+/* Sees to it that a thread keeps the time. Answers 0, or why none does: in a child that was forked beside others none of the library's is there. */
 static uint32_t keep_time(void)
 {
+    if (process.is_forked)
+        return ERROR_NOT_SUPPORTED;
     if (is_time_kept())
         return 0;
     HANDLE thread = CreateThread(NULL, 0, keep_timers, NULL, 0, NULL);

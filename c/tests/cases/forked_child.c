@@ -1,7 +1,7 @@
-/* Within 20 s: 47 passed, 0 failed.
+/* Within 20 s: 48 passed, 0 failed.
  *
- * A child is forked beside threads that call and wait: each of its calls is refused with ERROR_NOT_SUPPORTED, and none hangs. A child of a
- * process in which nobody else has called may call, also where the lock favours who forks. */
+ * A child is forked beside threads that call and wait: each of its calls is refused with ERROR_NOT_SUPPORTED, and none hangs, not
+ * even one that waits for a callback. A child of a process in which nobody else has called may call, also where the lock favours who forks. */
 #include "case.h"
 
 enum { CHILDREN = 40 };
@@ -12,8 +12,9 @@ const char *__tsan_default_options(void)
     return "report_thread_leaks=0";
 }
 
-static HANDLE event;
-static LONG stops;
+static HANDLE event, gate;
+static LONG stops, is_in_callback;
+static PTP_WORK work;
 
 /* How the child ended that does this: its exit status, or 1000 and the signal. */
 static int forked(int (*does)(void))
@@ -35,6 +36,41 @@ static DWORD does_nothing(LPVOID unused)
 {
     (void)unused;
     return 0;
+}
+
+static void CALLBACK waits_in_pool(PTP_CALLBACK_INSTANCE instance, PVOID none, PTP_WORK its_work)
+{
+    (void)instance, (void)none, (void)its_work;
+    raise_flag(&is_in_callback);
+    WaitForSingleObject(gate, INFINITE);
+}
+
+static void CALLBACK comes_never(PTP_CALLBACK_INSTANCE instance, PVOID none)
+{
+    (void)instance, (void)none;
+}
+
+static void CALLBACK ticks_never(PVOID none, BOOLEAN timed_out)
+{
+    (void)none, (void)timed_out;
+}
+
+static void CALLBACK beats_never(UINT number, UINT none, DWORD_PTR user, DWORD_PTR one, DWORD_PTR two)
+{
+    (void)number, (void)none, (void)user, (void)one, (void)two;
+}
+
+/* The same of callbacks, for which no thread is there. Nobody waits for one that another thread was in. */
+static int callbacks_beside_threads(void)
+{
+    HANDLE timer = NULL;
+    int wrong = FAILS(CreateThreadpoolWork(waits_in_pool, NULL, NULL) != NULL) + FAILS(TrySubmitThreadpoolCallback(comes_never, NULL, NULL));
+    wrong += FAILS(CreateTimerQueueTimer(&timer, NULL, ticks_never, NULL, 0, 0, WT_EXECUTEINTIMERTHREAD));
+    wrong += timeSetEvent(1, 0, beats_never, 0, TIME_ONESHOT) != 0;
+    SubmitThreadpoolWork(work);
+    WaitForThreadpoolWorkCallbacks(work, FALSE);
+    CloseThreadpoolWork(work);
+    return wrong;
 }
 
 /* How many calls were not refused as they ought to be. */
@@ -64,9 +100,10 @@ static DWORD calls(LPVOID unused)
     return 0;
 }
 
-static DWORD waits(LPVOID gate)
+static DWORD waits(LPVOID unused)
 {
-    return WaitForSingleObject(gate, 60000);
+    (void)unused;
+    return WaitForSingleObject(gate, INFINITE);
 }
 
 static void *calls_nothing(void *none)
@@ -97,15 +134,19 @@ static void fork_as_favoured(void)
 
 int main(void)
 {
-    HANDLE gate, threads[4];
+    HANDLE threads[4];
     event = CreateEvent(NULL, TRUE, FALSE, NULL);
     gate = CreateEvent(NULL, TRUE, FALSE, NULL);
     IS(forked(calls_alone), 0);
     fork_as_favoured();
     IS(SetEvent(event), TRUE);
-    threads[0] = CreateThread(NULL, 0, waits, gate, 0, NULL);
+    threads[0] = CreateThread(NULL, 0, waits, NULL, 0, NULL);
     rest_ms(20);
     IS(forked(calls_beside_threads), 0);
+    must((work = CreateThreadpoolWork(waits_in_pool, NULL, NULL)) != NULL);
+    SubmitThreadpoolWork(work);
+    await(&is_in_callback);
+    IS(forked(callbacks_beside_threads), 0);
     for (int i = 1; i < 4; i++)
         threads[i] = CreateThread(NULL, 0, calls, NULL, 0, NULL);
     for (int i = 0; i < CHILDREN; i++)
@@ -113,6 +154,8 @@ int main(void)
     raise_flag(&stops);
     IS(SetEvent(gate), TRUE);
     IS(WaitForMultipleObjects(4, threads, TRUE, INFINITE), WAIT_OBJECT_0);
+    WaitForThreadpoolWorkCallbacks(work, FALSE);
+    CloseThreadpoolWork(work);
     IS(SetEvent(event), TRUE);
     return counted();
 }
