@@ -50,6 +50,16 @@
 #endif
 #endif
 
+/* The steps of the protocols of `nt_protocols`, by name. A test tells them as a trace (tests/schedules/trace.h); else these are nothing at all. */
+#ifndef STEP
+#define STEP(protocol, word, ...) ((void)0)               /* the thread's last step on this word; null: it does nothing on any */
+#define STEP_OF(seat, protocol, word, ...) ((void)0)      /* the same, the first in which this seat's thread takes the lock */
+#define STEP_NEXT(seat) ((void)0)                         /* this seat's thread is to take the lock */
+#define STEP_BEYOND(protocol, ...) ((void)0)              /* another thread has passed a barrier */
+#define TO_SLEEP(protocol, word, ...) ((void)0)           /* the names of what may become of the thread's next sleep on this word */
+#define TO_WAKE(protocol, word, ...) ((void)0)            /* and of its next wake-up: that it wakes one, or nobody */
+#endif
+
 /* How often a thread looks before it sleeps. A test may set less. */
 #ifndef LOOKS_AT_LOCK
 #define LOOKS_AT_LOCK 40   /* at the lock: about as long as falling asleep and waking take */

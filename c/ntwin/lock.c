@@ -38,6 +38,7 @@ static inline bool is_alone(void)
 /* Wakes who has revoked the favour and sleeps until this thread is not inside. */
 __attribute__((noinline, cold)) static void wake_who_revoked(struct seat *seat)
 {
+    TO_WAKE(lock, &seat->inside, WakesRevoker, WakesNoRevoker);
     wake_one(&seat->inside);
 }
 
@@ -60,13 +61,19 @@ __attribute__((always_inline)) static inline void step_out(struct seat *seat, ui
         atomic_store_explicit(&seat->inside, 0, memory_order_relaxed);
     else
         atomic_exchange_explicit(&seat->inside, 0, memory_order_seq_cst);
-    if (!lock_is(inside))
+    STEP(lock, &seat->inside, StepsOut);
+    if (!lock_is(inside)) {
+        STEP(lock, &waiting.lock, FindsRevoked);
         wake_who_revoked(seat);
+    } else {
+        STEP(lock, &waiting.lock, KeepsFavour);
+    }
 }
 
 /* The same where the lock has come to favour it no longer. Answers false. */
 __attribute__((noinline, cold)) static bool step_back(struct seat *seat, uint32_t inside)
 {
+    STEP(lock, &waiting.lock, MissesFavour);
     step_out(seat, inside);
     return false;
 }
@@ -77,10 +84,13 @@ __attribute__((always_inline)) static inline bool step_in(struct seat *seat)
     const uint32_t mine = FAVOURS + seat->number;
     if (!lock_is(mine) || inside_of(seat) != 0)
         return false;
+    STEP_OF(seat, lock, &waiting.lock, SeesFavour);
     atomic_store_explicit(&seat->inside, mine, memory_order_relaxed);
+    STEP(lock, &seat->inside, StoresInside);
     atomic_signal_fence(memory_order_seq_cst);
     if (!lock_is(mine))
         return step_back(seat, mine);
+    STEP(lock, &waiting.lock, Enters);
     seat->turns++;
     return true;
 }
@@ -108,10 +118,15 @@ __attribute__((noinline, cold)) static void favour(struct seat *seat)
         return;
     seat->turns = 0;
     atomic_store_explicit(&seat->inside, mine, memory_order_relaxed);
-    if (atomic_compare_exchange_strong_explicit(&waiting.lock, &seen, mine, memory_order_acq_rel, memory_order_relaxed))
+    STEP(lock, &seat->inside, StoresFirst);
+    if (atomic_compare_exchange_strong_explicit(&waiting.lock, &seen, mine, memory_order_acq_rel, memory_order_relaxed)) {
+        STEP(lock, &waiting.lock, GainsFavour);
         set_takes_lock(seat, false);
-    else
+    } else {
+        STEP(lock, &waiting.lock, MissesTaken);
         atomic_store_explicit(&seat->inside, 0, memory_order_relaxed);
+        STEP(lock, &seat->inside, UnstoresInside);
+    }
 }
 
 /* The caller has taken the lock as all do. */
@@ -168,12 +183,18 @@ static void set_patience(uint32_t turns)
 static void wait_until_outside(struct seat *seat)
 {
     for (uint32_t i = 0; process.looks && i < LOOKS_AT_LOCK; i++) {
-        if (atomic_load_explicit(&seat->inside, memory_order_acquire) == 0)
+        if (atomic_load_explicit(&seat->inside, memory_order_acquire) == 0) {
+            STEP(lock, &seat->inside, FindsOutside, seat->number);
             return;
+        }
         rest();
     }
-    for (uint32_t seen; (seen = atomic_load_explicit(&seat->inside, memory_order_acquire)) != 0;)
+    for (uint32_t seen; (seen = atomic_load_explicit(&seat->inside, memory_order_acquire)) != 0;) {
+        STEP(lock, &seat->inside, FindsInside, seat->number);
+        TO_SLEEP(lock, &seat->inside, FallsAsleepOn, FindsLeft, StirsOn, RestartsOn, seat->number);
         sleep_on(&seat->inside, seen, NULL);
+    }
+    STEP(lock, &seat->inside, FindsOutside, seat->number);
 }
 
 /* The caller has made the lock, which was found so, TAKEN or WANTED: now it takes it from whom it favoured, if it did. */
@@ -184,6 +205,7 @@ static void take_from(uint32_t found)
     struct seat *seat = &waiting.seats[found - FAVOURS];
     if (seat != own.seat)
         pass_barriers();
+    STEP_BEYOND(lock, PassesBarrier, seat->number);
     wait_until_outside(seat);
     if (seat != own.seat)
         set_patience(seat->turns);
@@ -203,10 +225,13 @@ static void sleep_on_lock(void)
 {
     struct seat *seat = own.seat;
     const bool takes = seat != NULL && takes_lock(seat);
+    STEP(lock, &waiting.lock, MarksHeld);
+    TO_WAKE(lock, seat == NULL ? NULL : &seat->inside, PaysOne, PaysNobody);
     if (seat != NULL) {
         set_takes_lock(seat, false);
         wake_one(&seat->inside);
     }
+    TO_SLEEP(lock, &waiting.lock, FallsAsleep, FindsUnwanted, Stirs, Restarts, 0);
     sleep_on(&waiting.lock, WANTED, NULL);
     if (seat != NULL)
         set_takes_lock(seat, takes);
@@ -221,13 +246,16 @@ __attribute__((noinline, cold)) static void wait_for_lock(void)
         if (seen == WANTED)
             break;
         if (seen != TAKEN && take_as_seen(seen)) {
+            STEP(lock, &waiting.lock, seen == FREE ? TakesFree : Revokes, seen);
             take_from(seen);
             return;
         }
         rest();
     }
+    STEP(lock, NULL, StopsLooking);
     while ((seen = atomic_exchange_explicit(&waiting.lock, WANTED, memory_order_acquire)) == TAKEN || seen == WANTED)
         sleep_on_lock();
+    STEP(lock, &waiting.lock, seen == FREE ? MarksFree : MarksFavoured, seen);
     take_from(seen);
 }
 
@@ -245,14 +273,18 @@ __attribute__((noinline, cold)) static void tell_of_giving(void)
 /* Wakes one thread that sleeps on the lock. */
 __attribute__((noinline, cold)) static void wake_who_wants_lock(void)
 {
+    TO_WAKE(lock, &waiting.lock, WakesOne, WakesNobody);
     wake_one(&waiting.lock);
 }
 
 /* Takes the lock in one step, or waits for it. */
 static inline void take_in_a_step(void)
 {
+    STEP(lock, NULL, Asks);
     if (!take_as_seen(FREE))
         wait_for_lock();
+    else
+        STEP(lock, &waiting.lock, TakesFree);
     if (has_sanitizer())
         tell_of_taking();
 }
@@ -283,6 +315,7 @@ __attribute__((noinline)) static bool take_in_turn(struct seat *caller)
         return false;
     }
     set_takes_lock(caller, true);
+    STEP_NEXT(caller);
     take_lock();
     count_turn(caller);
     return true;
@@ -304,7 +337,9 @@ __attribute__((always_inline)) static inline bool let_go(void)
     }
     if (has_sanitizer())
         tell_of_giving();
-    return atomic_exchange_explicit(&waiting.lock, FREE, memory_order_release) == WANTED;
+    const bool is_wanted = atomic_exchange_explicit(&waiting.lock, FREE, memory_order_release) == WANTED;
+    STEP(lock, &waiting.lock, GivesBack);
+    return is_wanted;
 }
 
 /* Gives back what `take_lock` took. */
@@ -335,15 +370,22 @@ static bool try_lock(void)
     const uint32_t seen = atomic_load_explicit(&waiting.lock, memory_order_relaxed);
     if (seen == TAKEN || seen == WANTED || !take_as_seen(seen))
         return false;
+    STEP(lock, &waiting.lock, seen == FREE ? TriesFree : TriesFavoured, seen);
     if (seen == FREE)
         return true;
     const struct seat *seat = &waiting.seats[seen - FAVOURS];
     if (seat != own.seat)
         pass_barriers();
-    if (atomic_load_explicit(&seat->inside, memory_order_acquire) == 0)
+    STEP_BEYOND(lock, PassesBarrierOnce, seat->number);
+    if (atomic_load_explicit(&seat->inside, memory_order_acquire) == 0) {
+        STEP(lock, &seat->inside, FindsOutsideOnce, seat->number);
         return true;
+    }
+    STEP(lock, &seat->inside, Declines, seat->number);
     /* The lock favours that thread as before, which has it. */
-    if (atomic_exchange_explicit(&waiting.lock, seen, memory_order_release) == WANTED)
+    const bool is_wanted = atomic_exchange_explicit(&waiting.lock, seen, memory_order_release) == WANTED;
+    STEP(lock, &waiting.lock, PutsBack, seat->number);
+    if (is_wanted)
         wake_who_wants_lock();
     return false;
 }

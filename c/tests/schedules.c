@@ -1,5 +1,5 @@
 /* ntwin.c under a scheduler and a clock of the test's own (schedules/strands.h): random programs, each with a random schedule. Words: how many of
- * them, 3,000 if that is not said, and the first one's seed, 1 if not.
+ * them, 3,000 if that is not said, and the first one's seed, 1 if not; and a file for the trace of their steps (schedules/trace.h).
  *
  * What is kept under the lock holds whenever that is given back (ntwin/check.c); each wait answers the status with which the dispatcher ended
  * it, no sooner than its time; and whenever all threads sleep, each thread whose wait pends sleeps on its word, to its deadline at the
@@ -214,10 +214,12 @@ static void begin_anew(void)
 int main(int count, char **words)
 {
     const uint64_t programs = count > 1 ? strtoull(words[1], NULL, 10) : 3000, first = count > 2 ? strtoull(words[2], NULL, 10) : 1;
+    trace.file = count > 3 ? fopen(words[3], "w") : NULL;
     run.look = look_at_all;
     for (uint64_t seed = first; seed < first + programs; seed++) {
         begin_anew();
         run_all(drive, seed);
+        write_trace();
         if (waiting.alive != 0)
             broken("%u threads have not left", waiting.alive);
     }

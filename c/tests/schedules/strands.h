@@ -15,6 +15,7 @@
 #define TURNS_THAT_PAY 3
 /* What a thread finds of its own is one variable, which is changed at each switch. */
 #define own OWN
+#include "step_names.h"
 #include "../../ntwin/inside.h"
 
 #include <stdarg.h>
@@ -30,6 +31,7 @@ enum {
     MOST_POINTS = 30000000, /* in a run */
     MOST_JUMPS = 60,        /* of the time, between two turns of who rests */
     ROUNDS_AT_END = PTHREAD_DESTRUCTOR_ITERATIONS,
+    STEPS_KNOWN = 8,        /* of a strand's last ones, where each is in the trace */
     NANOSECONDS = 1000000000
 };
 
@@ -50,6 +52,23 @@ struct strand {
     uint32_t late_value;
     int priority;
     const void *leaving;    /* the value of its key */
+    struct made_step {      /* its last steps, as many as there are (trace.h): */
+        const volatile void *word;
+        size_t place;
+    } made[STEPS_KNOWN];
+    uint32_t steps_made;
+    uint32_t lock_thread, next_lock_thread; /* which thread of the lock's protocol it is, and is to be (plus one) */
+    bool has_missed;        /* its last step found that the lock no longer favours it */
+    bool has_barred;        /* it has had the others pass a barrier */
+    bool is_told_asleep;    /* it sleeps, as the trace has it */
+    struct {
+        const volatile void *word;
+        uint32_t names[5];
+    } to_sleep;
+    struct {
+        const volatile void *word;
+        uint32_t names[2];
+    } to_wake;
     struct own kept;
 };
 
@@ -111,10 +130,15 @@ __attribute__((format(printf, 1, 2), noreturn)) static void broken(const char *f
 
 /* ---- What a strand has stored last is late: others see it by chance, or once it makes a step, stores more, sleeps, or passes a barrier. */
 
+static void note_step(const volatile void *word);
+static void note_arrival(const volatile void *word, uint32_t value);
+
 static void end_store(struct strand *strand)
 {
-    if (strand != NULL && strand->late_word != NULL)
+    if (strand != NULL && strand->late_word != NULL) {
         __atomic_store_n(strand->late_word, strand->late_value, __ATOMIC_SEQ_CST);
+        note_arrival(strand->late_word, strand->late_value);
+    }
     if (strand != NULL)
         strand->late_word = NULL;
 }
@@ -122,6 +146,7 @@ static void end_store(struct strand *strand)
 static void store_late(void *word, uint32_t value)
 {
     end_store(run.runs);
+    note_step(word);
     run.runs->late_word = word;
     run.runs->late_value = value;
 }

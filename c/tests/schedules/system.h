@@ -2,37 +2,73 @@
 #ifndef SYSTEM_H
 #define SYSTEM_H
 
-#include "strands.h"
+#include "trace.h"
 
 /* ---- The system, here. */
+
+/* Has each other strand pass a barrier. (Once in a while the system refuses that from then on.) */
+static long pass_all_barriers(void)
+{
+    struct strand *me = run.runs;
+    end_all_stores();
+    if (me == NULL)
+        return 0;
+    note_step(&process.has_barriers);
+    me->has_barred = true;
+    point();
+    return 0;
+}
+
+/* Sleeps on the word while it has this value, to this time at the longest. Once in a while it returns for no reason, or a signal ends the sleep and
+ * the system begins it again. */
+static long sleep_on_word(void *word, uint32_t value, uint64_t until)
+{
+    struct strand *me = run.runs;
+    for (;;) {
+        if (*(volatile uint32_t *)word != value) {
+            tell_sleep(word, DID_NOT_SLEEP);
+            return -1;
+        }
+        tell_sleep(word, SLEPT);
+        if (one_in(50)) {
+            tell_end_of_sleep(word);
+            return -1;
+        }
+        const bool is_interrupted = one_in(50);
+        me->word = word;
+        me->is_woken = false;
+        me->until = is_interrupted && run.now + 1000 < until ? run.now + below(1000) : until;
+        stand_aside(SLEEPS);
+        me->word = NULL;
+        if (me->is_woken || me->until == until)
+            break;
+        tell_sleep(word, SLEEPS_AGAIN);
+    }
+    tell_end_of_sleep(word);
+    return 0;
+}
 
 static long use_system(long number, void *word, int operation, uint32_t value, const struct timespec *until)
 {
     struct strand *me = run.runs, *sleepers[MOST_STRANDS];
     uint32_t count = 0;
     point();
-    if (number == SYS_membarrier) {
-        end_all_stores();
-        point();
-        return 0;
-    }
+    if (number == SYS_membarrier)
+        return pass_all_barriers();
     end_store(me);
     if (operation == FUTEX_WAKE_PRIVATE) {
         for (int i = 0; i < run.count; i++)
             if (run.strands[i].state == SLEEPS && run.strands[i].word == word && !run.strands[i].is_woken)
                 sleepers[count++] = &run.strands[i];
-        if (count > 0)
-            sleepers[below(count)]->is_woken = true;
-        return count > 0;
+        struct strand *woken = count > 0 ? sleepers[below(count)] : NULL;
+        if (woken != NULL)
+            woken->is_woken = true;
+        tell_wake(word, woken);
+        return woken != NULL;
     }
-    if (*(volatile uint32_t *)word != value || one_in(50))
-        return -1;
-    me->word = word;
-    me->is_woken = false;
-    me->until = until == NULL || until->tv_sec > NANOSECONDS ? NEVER : (uint64_t)until->tv_sec * NANOSECONDS + (uint64_t)until->tv_nsec;
-    stand_aside(SLEEPS);
-    me->word = NULL;
-    return 0;
+    return sleep_on_word(word, value,
+                         until == NULL || until->tv_sec > NANOSECONDS ? NEVER
+                                                                      : (uint64_t)until->tv_sec * NANOSECONDS + (uint64_t)until->tv_nsec);
 }
 
 static int read_clock(struct timespec *at)
@@ -106,7 +142,7 @@ static int yield_strand(void)
 #define compare_step(word, seen, value) __atomic_compare_exchange_n(word, seen, value, false, __ATOMIC_SEQ_CST, __ATOMIC_SEQ_CST)
 #endif
 #define own_late_word(word) (run.runs != NULL && (void *)run.runs->late_word == (void *)(word))
-#define atomic_load_explicit(word, order) (point(), own_late_word(word) ? end_store(run.runs) : (void)0, load_step(word))
+#define atomic_load_explicit(word, order) (point(), own_late_word(word) ? end_store(run.runs) : (void)0, note_step(word), load_step(word))
 #define atomic_store_explicit(word, value, order) \
     (point(), run.runs != NULL && sizeof *(word) == sizeof(uint32_t) ? store_late((void *)(word), (uint32_t)(uintptr_t)(value)) \
                                                                      : (end_store(run.runs), store_step(word, value)))
@@ -115,11 +151,12 @@ static int yield_strand(void)
     __extension__({ \
         point(); \
         end_store(run.runs); \
+        note_step(word); \
         __auto_type found_by_step = exchange_step(word, value); \
         point(); \
         found_by_step; \
     })
 #define atomic_compare_exchange_strong_explicit(word, seen, value, one, other) \
-    (point(), end_store(run.runs), compare_step(word, seen, value))
+    (point(), end_store(run.runs), note_step(word), compare_step(word, seen, value))
 
 #endif
