@@ -188,6 +188,9 @@ static void look_at_all(void)
     uint64_t due;
     if (!waiting.dispatcher.live)
         return;
+    for (int i = 0; i < run.count; i++)
+        if (run.strands[i].is_refused_barrier) /* (It has the lock, and sleeps for a tenth of a second.) */
+            return;
     if (is_taken())
         broken("all threads sleep, and the lock is not free: %u", (unsigned)waiting.lock);
     for (uint32_t i = 0; i < waiting.seated; i++)
@@ -207,6 +210,7 @@ static void begin_anew(void)
     memset(&own, 0, sizeof own);
     memset(expected, 0, sizeof expected);
     process.is_open = false;
+    process.has_barriers = true;
     program.made = 0;
     memset(program.minders, 0, sizeof program.minders);
 }

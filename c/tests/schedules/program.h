@@ -165,12 +165,19 @@ static void end_thread_seldom(void)
         ExitThread(0);
 }
 
+/* As the end of the process does. */
+static void try_the_lock(void)
+{
+    if (try_lock())
+        give_lock();
+}
+
 static void act(void)
 {
     static void (*const all[])(void) = {
         set_event, set_event, reset_event, pulse_event, release_semaphore, release_mutex, set_any_timer, set_any_timer, cancel_timer, queue_apc,
         sleep_for_a_time, sleep_for_a_time, wait_for_one, wait_for_one, wait_for_one, wait_for_several, wait_for_several, wait_for_several,
-        signal_and_wait, signal_and_wait, begin_thread_seldom, end_thread_seldom,
+        signal_and_wait, signal_and_wait, begin_thread_seldom, end_thread_seldom, try_the_lock,
     };
     sums.calls++;
     all[below(sizeof all / sizeof *all)]();

@@ -59,7 +59,8 @@ struct strand {
     uint32_t steps_made;
     uint32_t lock_thread, next_lock_thread; /* which thread of the lock's protocol it is, and is to be (plus one) */
     bool has_missed;        /* its last step found that the lock no longer favours it */
-    bool has_barred;        /* it has had the others pass a barrier */
+    bool has_barred;        /* it has had the others pass a barrier, */
+    bool is_refused_barrier; /* or was refused that, and rests until their stores have arrived */
     bool is_told_asleep;    /* it sleeps, as the trace has it */
     struct {
         const volatile void *word;

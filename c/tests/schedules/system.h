@@ -13,6 +13,10 @@ static long pass_all_barriers(void)
     end_all_stores();
     if (me == NULL)
         return 0;
+    if (one_in(400)) {
+        me->is_refused_barrier = true;
+        return -1;
+    }
     note_step(&process.has_barriers);
     me->has_barred = true;
     point();

@@ -104,7 +104,10 @@ static void note_arrival(const volatile void *word, uint32_t value)
 static void name_barrier(const uint32_t *names)
 {
     struct strand *me = run.runs;
-    if (trace.file == NULL || me == NULL || me->lock_thread == names[1])
+    if (me->is_refused_barrier) /* (A tenth of a second has passed.) */
+        end_all_stores();
+    me->is_refused_barrier = false;
+    if (trace.file == NULL || me->lock_thread == names[1])
         return;
     const size_t place = me->has_barred ? last_step_on(&process.has_barriers) : put_step(NO_STEP, 0, 0);
     me->has_barred = false;
