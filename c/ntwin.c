@@ -23,6 +23,8 @@
 
 #include "ntwin/knots.c"
 
+#include "ntwin/noted.c"
+
 #include "ntwin/looked.c"
 
 #include "ntwin/lock.c"
@@ -120,6 +122,12 @@
 #include "win32/told.c"
 
 #include "ntwin/why.c"
+
+#include "ntwin/symbols.c"
+
+#include "ntwin/lines.c"
+
+#include "ntwin/places.c"
 
 #include "ntwin/looking.c"
 

@@ -23,6 +23,7 @@
 #include <link.h>
 #include <linux/futex.h>
 #include <linux/membarrier.h>
+#include <poll.h>
 #include <pthread.h>
 #include <sched.h>
 #include <setjmp.h>
@@ -39,6 +40,7 @@
 #include <sys/stat.h>
 #include <sys/syscall.h>
 #include <sys/sysinfo.h>
+#include <sys/wait.h>
 #include <time.h>
 #include <unistd.h>
 #include <wchar.h>
@@ -153,7 +155,8 @@ struct seat {
     struct runner *runner;   /* of a thread of CreateThread that has not left */
     struct seat *next;       /* among the spare seats */
     uint32_t looks;          /* how often it looks at its word before it sleeps: 0 where that was in vain of late */
-    const void *waits_at;    /* where in the program its last wait that pended was called */
+    const void *waits_at;    /* where in the program its last wait that pended was called, */
+    const void *calls_at;    /* and the call under way, where that is noted (noted.c) */
     bool tells;              /* its call has tied a knot, of which it tells as it gives the lock back */
     uint32_t woken[WOKEN_LATER]; /* the first of the threads that its call has told something while they slept, by their numbers */
 };

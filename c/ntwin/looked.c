@@ -28,6 +28,8 @@ struct calls {
 static inline uint32_t looked_at(uint32_t refused, bool may_tie)
 {
     struct nt_told told;
+    if (refused == 0)
+        note_ends();
     if (tells_knots && refused == 0 && (may_tie || (waiting.pending != 0 && nt_told(&waiting.dispatcher, 0, &told) == 0)))
         look_for_knot();
     return refused;
@@ -63,17 +65,23 @@ static uint32_t look_next_apc(struct nt *nt, uint32_t who, struct nt_reply *repl
 
 static uint32_t look_set_event(struct nt *nt, uint32_t who, uint32_t event, struct nt_reply *reply)
 {
-    return looked_by_handle(nt_set_event(nt, who, event, reply), who, WORD_SET " ", event, false);
+    const uint32_t refused = nt_set_event(nt, who, event, reply);
+    note_deed(refused, event, WAS_SET, 0);
+    return looked_by_handle(refused, who, WORD_SET " ", event, false);
 }
 
 static uint32_t look_reset_event(struct nt *nt, uint32_t who, uint32_t event, struct nt_reply *reply)
 {
-    return looked_by_handle(nt_reset_event(nt, who, event, reply), who, WORD_RESET " ", event, false);
+    const uint32_t refused = nt_reset_event(nt, who, event, reply);
+    note_deed(refused, event, WAS_RESET, 0);
+    return looked_by_handle(refused, who, WORD_RESET " ", event, false);
 }
 
 static uint32_t look_pulse_event(struct nt *nt, uint32_t who, uint32_t event, struct nt_reply *reply)
 {
-    return looked_by_handle(nt_pulse_event(nt, who, event, reply), who, WORD_PULSE " ", event, false);
+    const uint32_t refused = nt_pulse_event(nt, who, event, reply);
+    note_deed(refused, event, WAS_PULSED, 0);
+    return looked_by_handle(refused, who, WORD_PULSE " ", event, false);
 }
 
 static uint32_t look_release_mutex(struct nt *nt, uint32_t who, uint32_t mutex, struct nt_reply *reply)
@@ -97,8 +105,8 @@ static inline bool is_made_again(uint32_t refused)
     return refused == NT_ERROR_HANDLE_LIMIT && give_numbers_again("each handle's number was used once");
 }
 
-/* Writes a creation, whose last words are these. */
-static uint32_t looked_creation(uint32_t refused, uint32_t who, const char *word, const char *words, const struct nt_reply *reply)
+/* Writes what gives a handle, whose last words are these. */
+static uint32_t looked_handle(uint32_t refused, uint32_t who, const char *word, const char *words, const struct nt_reply *reply)
 {
     char *at = begin_call(refused, who, word);
     if (at == NULL)
@@ -108,6 +116,14 @@ static uint32_t looked_creation(uint32_t refused, uint32_t who, const char *word
         at = put_number(at, reply->number);
     end_call(refused, put_text(at, words));
     return refused;
+}
+
+/* The same for a creation. */
+static uint32_t looked_creation(uint32_t refused, uint32_t who, const char *word, const char *words, const struct nt_reply *reply)
+{
+    if (refused == 0)
+        note_creation(reply->number);
+    return looked_handle(refused, who, word, words, reply);
 }
 
 static uint32_t look_create_event(struct nt *nt, uint32_t who, uint32_t flags, struct nt_reply *reply)
@@ -166,12 +182,13 @@ static uint32_t look_duplicate(struct nt *nt, uint32_t who, uint32_t handle, uin
     do
         refused = nt_duplicate(nt, who, handle, access, reply);
     while (is_made_again(refused));
-    return looked_creation(refused, who, WORD_DUP " ", pair_of(words, handle, access), reply);
+    return looked_handle(refused, who, WORD_DUP " ", pair_of(words, handle, access), reply);
 }
 
 static uint32_t look_release_semaphore(struct nt *nt, uint32_t who, uint32_t semaphore, int32_t count, struct nt_reply *reply)
 {
     const uint32_t refused = nt_release_semaphore(nt, who, semaphore, count, reply);
+    note_deed(refused, semaphore, WAS_RELEASED, count);
     char *at = begin_call(refused, who, WORD_RELEASE " ");
     if (at != NULL) {
         at = put_number(at, semaphore);
@@ -236,6 +253,7 @@ static uint32_t look_wait_objects(struct nt *nt, uint32_t who, const uint32_t *h
                                   struct nt_reply *reply)
 {
     const uint32_t refused = nt_wait_objects(nt, who, handles, count, all, ms, alertable, reply);
+    note_wait(refused, who, handles, count, all, reply);
     char *at = begin_call(refused, who, all ? WORD_ALL : WORD_ANY);
     if (at != NULL)
         end_call(refused, put_wait(at, ms, alertable, handles, count));
@@ -245,6 +263,7 @@ static uint32_t look_wait_objects(struct nt *nt, uint32_t who, const uint32_t *h
 static uint32_t look_wait_object(struct nt *nt, uint32_t who, uint32_t handle, uint32_t ms, bool alertable, struct nt_reply *reply)
 {
     const uint32_t refused = nt_wait_object(nt, who, handle, ms, alertable, reply);
+    note_wait(refused, who, &handle, 1, false, reply);
     char *at = begin_call(refused, who, WORD_ANY);
     if (at != NULL)
         end_call(refused, put_wait(at, ms, alertable, &handle, 1));
@@ -254,6 +273,7 @@ static uint32_t look_wait_object(struct nt *nt, uint32_t who, uint32_t handle, u
 static uint32_t look_sleep(struct nt *nt, uint32_t who, uint32_t ms, bool alertable, struct nt_reply *reply)
 {
     const uint32_t refused = nt_sleep(nt, who, ms, alertable, reply);
+    note_wait(refused, who, NULL, 0, false, reply);
     char *at = begin_call(refused, who, WORD_SLEEP);
     if (at != NULL)
         end_call(refused, put_wait(at, ms, alertable, NULL, 0));
@@ -263,6 +283,8 @@ static uint32_t look_sleep(struct nt *nt, uint32_t who, uint32_t ms, bool alerta
 static uint32_t look_swap(struct nt *nt, uint32_t who, uint32_t signal, uint32_t object, uint32_t ms, bool alertable, struct nt_reply *reply)
 {
     const uint32_t refused = nt_swap(nt, who, signal, object, ms, alertable, reply);
+    note_signal(refused, signal);
+    note_wait(refused, who, &object, 1, false, reply);
     char *at = begin_call(refused, who, WORD_SWAP " ");
     if (at != NULL) {
         at = put_number(at, signal);

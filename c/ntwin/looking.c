@@ -7,45 +7,6 @@
  * NTWIN_JOURNAL=FILE the run as a script
  * NTWIN_SCHEDULE=..  a scheduler decides who runs (schedule/asked.c), and NTWIN_WHY asks for nothing */
 
-/* A place in the program, and the file it is in. */
-struct module {
-    uintptr_t place, offset;
-    const char *name;
-};
-
-static int find_module(struct dl_phdr_info *info, size_t size, void *at)
-{
-    struct module *module = at;
-    (void)size;
-    for (int i = 0; i < info->dlpi_phnum; i++)
-        if (info->dlpi_phdr[i].p_type == PT_LOAD
-            && module->place - info->dlpi_addr - info->dlpi_phdr[i].p_vaddr < info->dlpi_phdr[i].p_memsz) {
-            module->offset = module->place - info->dlpi_addr;
-            module->name = info->dlpi_name[0] != 0 ? info->dlpi_name : program_invocation_name;
-            return 1;
-        }
-    return 0;
-}
-
-/* Writes the place whose number stands here, as addr2line takes it: that of the call, and not of what comes after. Answers where its mark ends. */
-static const char *write_file_and_offset(struct report *to, const char *number)
-{
-    char *end;
-    struct module module = { .place = (uintptr_t)strtoull(number, &end, 16) - 1 };
-    if (dl_iterate_phdr(find_module, &module) != 0)
-        add(to, "%s+0x%zx", module.name, (size_t)module.offset);
-    else
-        add(to, "0x%zx", (size_t)module.place);
-    return end + 1;
-}
-
-static void write_with_places(struct report *to, const char *text)
-{
-    for (const char *mark; (mark = strchr(text, MARK)) != NULL; text = write_file_and_offset(to, mark + 1))
-        add(to, "%.*s", (int)(mark - text), text);
-    add_text(to, text);
-}
-
 /* Writes why threads wait, under the lock, with places as numbers. */
 static void write_why(struct report *to, const char *none)
 {
@@ -61,7 +22,7 @@ static char *text_of_knot(void)
     return text_written_by(write_why, NULL);
 }
 
-/* The same text with files and offsets as places, in the place of this one. */
+/* The same text with its places (places.c), in the place of this one. */
 static char *with_places(char *marked)
 {
     char *text = marked != NULL ? text_written_by(write_with_places, marked) : NULL;
@@ -258,10 +219,12 @@ static void begin_looking(const char *why, const char *path)
     if (why != NULL) {
         aborts = strcmp(why, "abort") == 0;
         tells_knots = aborts || strcmp(why, "knot") == 0;
-        if (tells_knots || strcmp(why, "signal") == 0)
+        if (tells_knots || strcmp(why, "signal") == 0) {
+            begin_noting();
             begin_telling();
-        else
+        } else {
             say("ntwin: NTWIN_WHY is none of signal, knot, abort\n");
+        }
     }
     const int refused = path != NULL ? open_journal(path) : 0;
     if (refused != 0) {
@@ -269,7 +232,7 @@ static void begin_looking(const char *why, const char *path)
         snprintf(line, sizeof line, "ntwin: NTWIN_JOURNAL: no journal is written: %s\n", strerror(refused));
         say(line);
     }
-    if (tells_knots || journal.text != NULL)
+    if (noted != NULL || tells_knots || journal.text != NULL)
         made_by = looked_calls;
 }
 

@@ -51,6 +51,7 @@ BOOL SetEvent(HANDLE event)
     struct seat *seat = begin();
     if (seat == NULL)
         return FALSE;
+    note_call(seat);
     const uint32_t number = number_of(seat, event), refused = nt_set_event(&waiting.dispatcher, seat->number, number, &seat->reply);
     if (__builtin_expect(refused != 0, false))
         return set_event_beside_wait(seat, number, refused);
@@ -62,6 +63,7 @@ BOOL ResetEvent(HANDLE event)
     struct seat *seat = begin();
     if (seat == NULL)
         return FALSE;
+    note_call(seat);
     const uint32_t number = number_of(seat, event);
     return finish(seat, nt_reset_event(&waiting.dispatcher, seat->number, number, &seat->reply));
 }
@@ -71,6 +73,7 @@ BOOL PulseEvent(HANDLE event)
     struct seat *seat = begin();
     if (seat == NULL)
         return FALSE;
+    note_call(seat);
     const uint32_t number = number_of(seat, event);
     return finish(seat, nt_pulse_event(&waiting.dispatcher, seat->number, number, &seat->reply));
 }
@@ -112,6 +115,7 @@ BOOL ReleaseSemaphore(HANDLE semaphore, LONG count, LPLONG previous)
     struct seat *seat = begin();
     if (seat == NULL)
         return FALSE;
+    note_call(seat);
     const uint32_t number = number_of(seat, semaphore);
     const uint32_t refused = nt_release_semaphore(&waiting.dispatcher, seat->number, number, count, &seat->reply);
     const LONG before = seat->reply.previous;

@@ -190,6 +190,7 @@ __attribute__((always_inline)) static inline DWORD wait_for_objects(DWORD count,
     struct seat *seat = begin();
     if (seat == NULL)
         return WAIT_FAILED;
+    note_call(seat);
     read_numbers(numbers, objects, count);
     begin_timed(seat, ms);
     return finish_wait(seat, nt_wait(&waiting.dispatcher, seat->number, numbers, count, all != FALSE, ms, alertable != FALSE, &seat->reply),
@@ -212,6 +213,7 @@ __attribute__((always_inline)) static inline DWORD wait_for_object(HANDLE object
     struct seat *seat = begin();
     if (seat == NULL)
         return WAIT_FAILED;
+    note_call(seat);
     const uint32_t number = waited_number_of(seat, object);
     begin_timed(seat, ms);
     const uint32_t refused = nt_wait_object(&waiting.dispatcher, seat->number, number, ms, alertable != FALSE, &seat->reply);
@@ -239,6 +241,7 @@ static DWORD wait_before_apcs(HANDLE object, DWORD ms, BOOL alertable)
     struct seat *seat = begin();
     if (seat == NULL)
         return WAIT_FAILED;
+    note_call(seat);
     const uint32_t number = waited_number_of(seat, object);
     begin_timed(seat, ms);
     const uint32_t refused = nt_wait_object(&waiting.dispatcher, seat->number, number, ms, alertable != FALSE, &seat->reply);
@@ -255,6 +258,7 @@ DWORD SignalObjectAndWait(HANDLE signal, HANDLE object, DWORD ms, BOOL alertable
     struct seat *seat = begin();
     if (seat == NULL)
         return WAIT_FAILED;
+    note_call(seat);
     const uint32_t number = waited_number_of(seat, object);
     begin_timed(seat, ms);
     const uint32_t refused = nt_swap(&waiting.dispatcher, seat->number, number_of(seat, signal), number, ms, alertable != FALSE, &seat->reply);

@@ -1,8 +1,11 @@
 /* SPDX-License-Identifier: MIT OR Apache-2.0 */
 /* ---- Why threads wait, as a text. It is made under the lock. A place in the program stands in it as a number between two marks until the lock is
- * given back: which file that is the loader tells, which has a lock of its own. */
+ * given back (places.c): which file that is the loader tells, which has a lock of its own. */
 
-enum { MARK = 1 };
+enum {
+    MARK = 1,        /* of the place that comes right after a call, */
+    MARK_OF_NAME = 2 /* and of where a function begins: for its name, after a space, or for nothing */
+};
 
 /* What is known of all threads, under the lock. */
 static struct {
@@ -27,6 +30,13 @@ static void write_wide_name(struct report *to, const WCHAR *name)
         add_letter(to, *name >= ' ' && *name < 127 ? (char)*name : '?');
 }
 
+/* Writes a place as a number between two of these marks. */
+static void write_mark(struct report *to, char mark, uintptr_t place)
+{
+    add(to, "%c%zx%c", mark, (size_t)place, mark);
+}
+
+/* Writes a thread by its number and its name; where the program gave it none, by the routine that it began with. */
 static void write_thread(struct report *to, uint32_t number)
 {
     const WCHAR *name = waiting.seats[number].life.description;
@@ -34,6 +44,10 @@ static void write_thread(struct report *to, uint32_t number)
     if (name != NULL && *name != 0) {
         add_letter(to, ' ');
         write_wide_name(to, name);
+    } else if (waiting.seats[number].start != NULL) {
+        write_mark(to, MARK_OF_NAME, (uintptr_t)waiting.seats[number].start);
+    } else if (waiting.seats[number].life.task == process.id) {
+        add_text(to, " main");
     }
 }
 
@@ -57,8 +71,10 @@ static void write_thread_of_id(struct report *to, DWORD id)
 
 static void write_place(struct report *to, const char *before, const void *place)
 {
-    if (place != NULL)
-        add(to, "%s%c%zx%c", before, MARK, (size_t)place, MARK);
+    if (place == NULL)
+        return;
+    add_text(to, before);
+    write_mark(to, MARK, (uintptr_t)place);
 }
 
 /* ---- Objects. */
@@ -140,6 +156,84 @@ static void write_state(struct report *to, const struct nt_object *object)
     }
 }
 
+/* How long ago that was, by the coarse clock. */
+static void write_time_since(struct report *to, uint64_t when)
+{
+    const uint64_t now = coarsely(), since = now > when ? now - when : 0;
+    if (since < MOMENTS_PER_SECOND)
+        add(to, "%u ms ago", (unsigned)(since / (MOMENTS_PER_SECOND / 1000)));
+    else
+        add(to, "%llu.%u s ago", (unsigned long long)(since / MOMENTS_PER_SECOND), (unsigned)(since % MOMENTS_PER_SECOND / (MOMENTS_PER_SECOND / 10)));
+}
+
+/* Where and when what is noted was called. */
+static void write_call(struct report *to, const struct noted *it)
+{
+    write_place(to, " at ", it->place);
+    add_text(to, ", ");
+    write_time_since(to, it->when);
+}
+
+/* Who did what is noted, where, and when. (The thread's place may be another's by now.) */
+static void write_doer(struct report *to, const char *deed, const struct noted *it)
+{
+    const struct seat *seat = &waiting.seats[it->thread];
+    add_text(to, deed);
+    if (seat->life.began != it->began)
+        add_text(to, "a thread that has ended");
+    else
+        write_thread(to, it->thread);
+    write_call(to, it);
+}
+
+/* Which waits the call that is noted has ended. */
+static void write_ended(struct report *to, const struct noted *it)
+{
+    if (it->ended > 0)
+        add(to, ", which ended %u wait%s", it->ended, it->ended == 1 ? "" : "s");
+    else
+        add_text(to, it->was_awaited ? ", which ended no wait" : ", when nobody waited");
+}
+
+/* Where its owner took the mutex. */
+static void write_taking(struct report *to, const struct noted *it)
+{
+    add_text(to, it->deed == WAS_TAKEN ? "; taken" : "; owned since it was created");
+    if (it->deed == WAS_TAKEN)
+        write_call(to, it);
+}
+
+/* What was done last to the event or semaphore. */
+static void write_signal(struct report *to, uint32_t kind, const struct noted *it)
+{
+    switch (it->deed) {
+    case NOTHING_DONE:
+        add_text(to, kind == NT_EVENT ? "; nobody has set or pulsed it since it was created" : "; nobody has released it since it was created");
+        return;
+    case WAS_RESET:
+        write_doer(to, "; reset by ", it);
+        return;
+    case WAS_RELEASED:
+        write_doer(to, "; released by ", it);
+        add(to, ", by %d", it->count);
+        break;
+    default:
+        write_doer(to, it->deed == WAS_SET ? "; set by " : "; pulsed by ", it);
+    }
+    write_ended(to, it);
+}
+
+/* What was done last to the object, where that is noted. */
+static void write_deed(struct report *to, uint32_t number, const struct nt_object *object)
+{
+    if (noted == NULL)
+        return;
+    if (object->kind == NT_MUTEX && object->owned)
+        write_taking(to, &noted[number]);
+    if (object->kind == NT_EVENT || object->kind == NT_SEMAPHORE)
+        write_signal(to, object->kind, &noted[number]);
+}
+
 /* Whether the object is what it is called: the process and a completion port are events, for the dispatcher. */
 static bool is_as_called(uint32_t number)
 {
@@ -158,6 +252,7 @@ static void write_object_line(struct report *to, uint32_t number)
     write_place(to, ", created in ", waiting.made_at[number]);
     add_text(to, ": ");
     write_state(to, &object);
+    write_deed(to, number, &object);
     if (object.kind != NT_MUTEX && known.handles[number] == NO_HANDLE)
         add_text(to, ", and no handle names it any more");
     add_letter(to, '\n');

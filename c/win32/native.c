@@ -131,13 +131,15 @@ static uint32_t make_signal(struct seat *seat, enum signal signal, uint32_t numb
     }
 }
 
-static NTSTATUS signal_object(HANDLE handle, enum signal signal, PLONG previous)
+/* (In line in each of them: so `note_call` knows where the program calls.) */
+__attribute__((always_inline)) static inline NTSTATUS signal_object(HANDLE handle, enum signal signal, PLONG previous)
 {
     const DWORD before = own.last_error;
     struct nt_object object = { 0 };
     struct seat *seat = begin();
     if (seat == NULL)
         return state_of_error(before);
+    note_call(seat);
     read_object(seat, handle, signal == RELEASE ? NT_MUTEX : NT_EVENT, &object);
     const BOOL is_done = finish(seat, make_signal(seat, signal, number_of(seat, handle)));
     if (is_done && previous != NULL)

@@ -1,0 +1,273 @@
+/* SPDX-License-Identifier: MIT OR Apache-2.0 */
+/* ---- Places in the program, and the functions that they are in: by the symbol table of the file that they were loaded from, and by what the loader
+ * knows. That is read as a report is written, without the lock. The file may be another one by then, or broken: of what it says nothing is taken for
+ * granted, and it is read and not mapped, since whoever cuts a mapped file ends its readers. */
+
+enum { LONGEST_SYMBOL = 128, LONGEST_FILE_AND_LINE = 128, LONGEST_FILE = 256, HEADERS_AT_MOST = 64, NOTES_AT_MOST = 1024, SYMBOLS_AT_ONCE = 128 };
+
+/* A place in the program. */
+struct place {
+    uintptr_t address;
+    bool is_loaded;      /* it is in a file that was loaded, */
+    uintptr_t base;      /* from which its addresses count, */
+    char file[LONGEST_FILE]; /* and which is called so */
+    uint64_t symbol;     /* where in the table of names its function's stands, while that is looked for, */
+    uintptr_t begin;     /* and where the function begins, from the same base; 0 where it is not known */
+    char function[LONGEST_SYMBOL];
+    char line[LONGEST_FILE_AND_LINE]; /* file and line (lines.c), or empty */
+};
+
+/* All places of a report, by their addresses. */
+struct places {
+    struct place *of;
+    size_t count, room;
+};
+
+/* A file that is open, of which nothing is known. */
+struct image {
+    int file;
+    uint64_t size;
+};
+
+/* What was loaded from a file, as the loader has it. (It is copied while the loader's lock is held: it may be unloaded after that.) */
+struct loaded {
+    uintptr_t address;    /* a place in it, by which it is found */
+    uintptr_t base;
+    char name[PATH_MAX];  /* empty for the program itself */
+    size_t count;
+    ElfW(Phdr) headers[HEADERS_AT_MOST];
+    size_t notes;         /* so many bytes are the notes in it, one after the other */
+    char note[NOTES_AT_MOST];
+};
+
+/* Whether this is a note that is in memory, and there is room for it beside others of so many bytes. */
+static bool takes_note(const struct loaded *it, size_t others, const ElfW(Phdr) *note)
+{
+    for (size_t i = 0; note->p_type == PT_NOTE && i < it->count; i++) {
+        const ElfW(Phdr) *part = &it->headers[i];
+        if (part->p_type == PT_LOAD && note->p_vaddr >= part->p_vaddr && note->p_filesz <= part->p_filesz
+            && note->p_vaddr - part->p_vaddr <= part->p_filesz - note->p_filesz)
+            return note->p_filesz <= NOTES_AT_MOST - others;
+    }
+    return false;
+}
+
+static void copy_loaded(struct loaded *it, const struct dl_phdr_info *info)
+{
+    it->base = info->dlpi_addr;
+    it->count = info->dlpi_phnum <= HEADERS_AT_MOST ? info->dlpi_phnum : 0;
+    it->notes = 0;
+    snprintf(it->name, sizeof it->name, "%s", info->dlpi_name);
+    memcpy(it->headers, info->dlpi_phdr, it->count * sizeof *it->headers);
+    for (size_t i = 0; i < it->count; i++)
+        if (takes_note(it, it->notes, &it->headers[i])) {
+            memcpy(it->note + it->notes, (const char *)(it->base + it->headers[i].p_vaddr), it->headers[i].p_filesz);
+            it->notes += it->headers[i].p_filesz;
+        }
+}
+
+/* Whether this place is in what was loaded so. */
+static bool is_in(const struct dl_phdr_info *info, uintptr_t address)
+{
+    for (int i = 0; i < info->dlpi_phnum; i++)
+        if (info->dlpi_phdr[i].p_type == PT_LOAD && address - info->dlpi_addr - info->dlpi_phdr[i].p_vaddr < info->dlpi_phdr[i].p_memsz)
+            return true;
+    return false;
+}
+
+static int find_loaded(struct dl_phdr_info *info, size_t size, void *at)
+{
+    struct loaded *it = at;
+    (void)size;
+    if (!is_in(info, it->address))
+        return 0;
+    copy_loaded(it, info);
+    return 1;
+}
+
+static int find_file(struct dl_phdr_info *info, size_t size, void *at)
+{
+    struct place *place = at;
+    (void)size;
+    if (!is_in(info, place->address))
+        return 0;
+    place->is_loaded = true;
+    place->base = info->dlpi_addr;
+    snprintf(place->file, sizeof place->file, "%s", info->dlpi_name[0] != 0 ? info->dlpi_name : program_invocation_name);
+    return 1;
+}
+
+/* A place, and the file it is in. */
+struct module {
+    uintptr_t place, offset;
+    const char *name;
+};
+
+static int find_module(struct dl_phdr_info *info, size_t size, void *at)
+{
+    struct module *module = at;
+    (void)size;
+    if (!is_in(info, module->place))
+        return 0;
+    module->offset = module->place - info->dlpi_addr;
+    module->name = info->dlpi_name[0] != 0 ? info->dlpi_name : program_invocation_name;
+    return 1;
+}
+
+/* ---- Reading the file. */
+
+/* Reads so many bytes at that offset. False where the file has not so many there. */
+static bool read_image(const struct image *image, void *to, size_t count, uint64_t offset)
+{
+    if (offset > image->size || count > image->size - offset)
+        return false;
+    for (size_t done = 0; done < count;) {
+        const ssize_t length = pread(image->file, (char *)to + done, count - done, (off_t)(offset + done));
+        if (length == 0 || (length < 0 && errno != EINTR))
+            return false;
+        done += length > 0 ? (size_t)length : 0;
+    }
+    return true;
+}
+
+static bool is_elf(const ElfW(Ehdr) *head)
+{
+    static const unsigned char class = sizeof(void *) == 8 ? ELFCLASS64 : ELFCLASS32;
+    return memcmp(head->e_ident, ELFMAG, SELFMAG) == 0 && head->e_ident[EI_CLASS] == class;
+}
+
+/* Whether the notes stand in the file as they do in memory. (A file of the same layout that was built anew has another build id.) */
+static bool has_same_notes(const struct image *image, const struct loaded *loaded)
+{
+    char bytes[NOTES_AT_MOST];
+    size_t seen = 0;
+    for (size_t i = 0; i < loaded->count; i++) {
+        const ElfW(Phdr) *note = &loaded->headers[i];
+        if (!takes_note(loaded, seen, note))
+            continue;
+        if (!read_image(image, bytes, note->p_filesz, note->p_offset) || memcmp(bytes, loaded->note + seen, note->p_filesz) != 0)
+            return false;
+        seen += note->p_filesz;
+    }
+    return true;
+}
+
+/* Whether this was loaded from this file, whose head is as is read here. */
+static bool is_of_file(const struct image *image, const struct loaded *loaded, ElfW(Ehdr) *head)
+{
+    ElfW(Phdr) header;
+    if (loaded->count == 0 || !read_image(image, head, sizeof *head, 0) || !is_elf(head) || head->e_phentsize != sizeof header
+        || head->e_phnum != loaded->count)
+        return false;
+    for (size_t i = 0; i < loaded->count; i++)
+        if (!read_image(image, &header, sizeof header, head->e_phoff + i * sizeof header)
+            || memcmp(&header, &loaded->headers[i], sizeof header) != 0)
+            return false;
+    return has_same_notes(image, loaded);
+}
+
+/* ---- The table of symbols. */
+
+/* The first of the places, which are sorted, that is not before this address. */
+static size_t first_place_from(const struct places *places, uintptr_t address)
+{
+    size_t from = 0, to = places->count;
+    while (from < to) {
+        const size_t middle = from + (to - from) / 2;
+        if (places->of[middle].address < address)
+            from = middle + 1;
+        else
+            to = middle;
+    }
+    return from;
+}
+
+/* Gives a function to those places that are in it, where none is known that begins later. */
+static void give_symbol(struct places *places, uintptr_t base, const ElfW(Sym) *symbol)
+{
+    const unsigned type = symbol->st_info & 0xF;
+    if ((type != STT_FUNC && type != STT_GNU_IFUNC) || symbol->st_shndx == SHN_UNDEF || symbol->st_value == 0)
+        return;
+    for (size_t i = first_place_from(places, base + symbol->st_value); i < places->count; i++) {
+        struct place *place = &places->of[i];
+        if (place->address - base - symbol->st_value >= symbol->st_size || place->address - base < symbol->st_value)
+            return;
+        if (place->is_loaded && place->base == base && place->begin < symbol->st_value) {
+            place->begin = symbol->st_value;
+            place->symbol = symbol->st_name;
+        }
+    }
+}
+
+/* Reads the name that begins at this offset of the table, and ends in it. Else it is empty. */
+static void read_symbol(const struct image *image, const ElfW(Shdr) *names, uint64_t offset, char name[LONGEST_SYMBOL])
+{
+    const uint64_t left = offset < names->sh_size ? names->sh_size - offset : 0;
+    const size_t count = left < LONGEST_SYMBOL ? (size_t)left : LONGEST_SYMBOL;
+    if (names->sh_offset > UINT64_MAX - offset || !read_image(image, name, count, names->sh_offset + offset) || memchr(name, 0, count) == NULL)
+        name[0] = 0;
+}
+
+static void read_symbols(const struct image *image, uintptr_t base, const ElfW(Shdr) *table, const ElfW(Shdr) *names, struct places *places)
+{
+    ElfW(Sym) symbols[SYMBOLS_AT_ONCE];
+    const uint64_t count = table->sh_size / sizeof *symbols;
+    for (uint64_t i = 0; i < count; i += SYMBOLS_AT_ONCE) {
+        const size_t some = count - i < SYMBOLS_AT_ONCE ? (size_t)(count - i) : SYMBOLS_AT_ONCE;
+        if (!read_image(image, symbols, some * sizeof *symbols, table->sh_offset + i * sizeof *symbols))
+            break;
+        for (size_t k = 0; k < some; k++)
+            give_symbol(places, base, &symbols[k]);
+    }
+    for (size_t i = 0; i < places->count; i++)
+        if (places->of[i].is_loaded && places->of[i].base == base && places->of[i].begin != 0 && places->of[i].function[0] == 0)
+            read_symbol(image, names, places->of[i].symbol, places->of[i].function);
+}
+
+/* Looks for the table in a file whose head is this. */
+static void read_sections(const struct image *image, uintptr_t base, const ElfW(Ehdr) *head, struct places *places)
+{
+    ElfW(Shdr) table, names;
+    if (head->e_shentsize != sizeof table)
+        return;
+    for (uint32_t i = 0; i < head->e_shnum; i++)
+        if (!read_image(image, &table, sizeof table, head->e_shoff + i * sizeof table))
+            return;
+        else if (table.sh_type == SHT_SYMTAB && table.sh_entsize == sizeof(ElfW(Sym)) && table.sh_link < head->e_shnum
+                 && read_image(image, &names, sizeof names, head->e_shoff + table.sh_link * sizeof names) && names.sh_type == SHT_STRTAB)
+            read_symbols(image, base, &table, &names, places);
+}
+
+/* Gives the places in this their functions, by the file with this path. Answers whether it was loaded from that. */
+static bool read_functions(const struct loaded *loaded, const char *path, struct places *places)
+{
+    struct stat it;
+    ElfW(Ehdr) head;
+    struct image image = { .file = open(path, O_RDONLY | O_CLOEXEC | O_NONBLOCK | O_NOCTTY) };
+    if (image.file < 0)
+        return false;
+    image.size = fstat(image.file, &it) == 0 && S_ISREG(it.st_mode) ? (uint64_t)it.st_size : 0;
+    const bool is_its = is_of_file(&image, loaded, &head);
+    if (is_its)
+        read_sections(&image, loaded->base, &head, places);
+    close(image.file);
+    return is_its;
+}
+
+/* Gives the places in this, which have none, the functions that the loader knows: those that other files may call. (It stays loaded meanwhile.) */
+static void ask_loader(const struct loaded *loaded, struct places *places)
+{
+    Dl_info info;
+    void *pin = dlopen(loaded->name[0] != 0 ? loaded->name : NULL, RTLD_LAZY | RTLD_NOLOAD);
+    if (pin == NULL)
+        return;
+    for (size_t i = 0; i < places->count; i++) {
+        struct place *place = &places->of[i];
+        if (place->is_loaded && place->base == loaded->base && place->function[0] == 0
+            && dladdr((const void *)place->address, &info) != 0 && info.dli_sname != NULL) {
+            snprintf(place->function, sizeof place->function, "%s", info.dli_sname);
+            place->begin = (uintptr_t)info.dli_saddr - place->base;
+        }
+    }
+    dlclose(pin);
+}
