@@ -116,12 +116,15 @@ impl Dispatcher {
 
     /// Of a lasting dispatcher: an ended thread that handles still name leaves its place to another. It walks all handles.
     ///
+    /// Refused with `HandleLimit` if no object number is spare; an object that is made and closed leaves one.
+    ///
     /// ```
     /// # use ntwait::{Dispatcher, Refused, Thread};
     /// let mut nt = Dispatcher::lasting(2)?;
+    /// nt.exit_thread(Thread(1))?;
+    /// assert_eq!(nt.set_aside(Thread(1)), Err(Refused::HandleLimit));
     /// let spare = nt.create_event(Thread(0), false, false)?;
     /// nt.close_handle(Thread(0), spare)?;
-    /// nt.exit_thread(Thread(1))?;
     /// nt.set_aside(Thread(1))?;
     /// assert_eq!(nt.set_aside(Thread(0)), Err(Refused::InvalidHandle));
     /// # Ok::<(), Refused>(())
