@@ -11,6 +11,7 @@ DENIED, NO_HANDLE, GONE, PARAMETER, NOT_OWNER, TOO_MANY = 5, 6, 31, 87, 288, 298
 WAITING, ENDED, UNKNOWN, DEEP, BACK = (0x20000000 + it for it in (1, 2, 3, 4, 5))
 DEEPEST = 2147483647
 MS = 10000  # a millisecond in units of 100 ns
+INFINITE = 4294967295  # as many milliseconds mean that a wait has no deadline
 
 Event = collections.namedtuple("Event", "manual set")
 Semaphore = collections.namedtuple("Semaphore", "count maximum")
@@ -211,7 +212,7 @@ class Machine:
         return answer, grants
 
     def begin(self, who, objects, whole, ms, alertable):
-        wait = Wait(tuple(objects), whole, alertable, None if ms is None else self.now + ms * MS)
+        wait = Wait(tuple(objects), whole, alertable, None if ms in (None, INFINITE) else self.now + ms * MS)
         if self.fits(who, wait):
             return f"status 0x{self.take(who, wait):08X}"
         if alertable and self.apcs[who]:
