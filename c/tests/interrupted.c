@@ -65,11 +65,12 @@ static bool is_set(HANDLE event)
 static void interrupt(const char *name, act *before, act *call, act *other)
 {
     bool came = true;
+    int missed = 0;
     pair = name;
     sets = refusals = 0;
     stepped.before = before;
     stepped.inner = set_others;
-    for (number = 0; came; number++) {
+    for (number = -1; next_step(&number, &missed, came);) {
         alarm(SECONDS_EACH_TIME);
         has_set = FALSE;
         came = step(call, other, number);

@@ -69,9 +69,10 @@ static void on_hang(int signal)
 static void try_pair(const char *name, act *prepare, act *call, act *other, act *finish, long least)
 {
     bool came = true;
+    int missed = 0;
     long touched = 0;
     pair = name;
-    for (number = 0; came; number++) {
+    for (number = -1; next_step(&number, &missed, came);) {
         alarm(SECONDS_EACH_TIME);
         touches = 0;
         renew_shared();

@@ -10,10 +10,11 @@
 static void *take_page(size_t size);
 static void give_page(void *at);
 static bool is_full; /* the system has no thread more */
-#define malloc(size) take_page(size)
-#define calloc(count, size) take_page((count) * (size))
-#define free(at) give_page(at)
-#define pthread_create(thread, attributes, start, argument) (is_full ? EAGAIN : (pthread_create)(thread, attributes, start, argument))
+#define malloc(size) UNSTEPPED(take_page(size))
+#define calloc(count, size) UNSTEPPED(take_page((count) * (size)))
+#define free(at) (clear_trap_flag(), give_page(at), step_on())
+#define pthread_create(thread, attributes, start, argument) \
+    UNSTEPPED(is_full ? EAGAIN : (pthread_create)(thread, attributes, start, argument))
 #include "../ntwin.c"
 #undef malloc
 #undef calloc
@@ -83,9 +84,10 @@ static void on_hang(int signal)
 static void try_pair(const char *name, act *prepare, act *call, act *other, act *finish, long least)
 {
     bool came = true;
+    int missed = 0;
     long touched = 0;
     pair = name;
-    for (number = 0; came; number++) {
+    for (number = -1; next_step(&number, &missed, came);) {
         alarm(120);
         touches = 0;
         prepare();
@@ -160,12 +162,10 @@ static void busy_pool(void)
         doze();
 }
 
-/* The thread goes on. It is done with the pool after a while, where it could take up what the call puts. */
+/* The thread goes on, and closes the pool where it can take up what the call puts. */
 static void go_on(void)
 {
     may_go_on = true;
-    for (int i = 0; i < 100 && !is_pool_gone; i++)
-        doze();
 }
 
 static void pool_is_gone(void)

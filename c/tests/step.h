@@ -1,6 +1,7 @@
 /* The stepper: a call stops before each of its instructions in turn, while another call, of another thread, does all that could matter. So each window
  * of one instruction is tried for that pair. The trap flag of x86-64 makes the processor tell of each instruction, by SIGTRAP; those outside the
- * program (libc, the kernel) and in the dispatcher are passed over.
+ * program (libc, the kernel) and in the dispatcher are passed over. No time is taken for enough: the other call has its turn until all
+ * threads sleep, or have ended.
  *
  * A test includes this before ntwin.c. It is for a build without sanitizers, which would be stepped through, too. */
 #ifndef STEP_H
@@ -9,6 +10,7 @@
 #define _GNU_SOURCE /* (as ntwin.c has it) */
 #include "../nt.h"
 
+#include <dirent.h>
 #include <fcntl.h>
 #include <limits.h>
 #include <pthread.h>
@@ -22,7 +24,7 @@
 #include <ucontext.h>
 #include <unistd.h>
 
-enum { TRAP_FLAG = 0x100, US_FOR_THE_OTHER = 400 };
+enum { TRAP_FLAG = 0x100, US_FOR_THE_OTHER = 1000, MS_UNTIL_A_LOOK = 20, MOST_PLACES = 64, MOST_MISSED = 3 };
 
 typedef void act(void);
 
@@ -30,13 +32,24 @@ static struct {
     act *before, *call, *other; /* what comes before the call is not stepped through */
     act *inner;                 /* null, or what the stopped thread calls itself, as a handler of signals that has interrupted its call */
     bool to_the_end;            /* the thread's end is a part of the call */
-    volatile long left;                    /* how many instructions more until the call stops; below 0 once it has */
+    long number;                           /* of the instruction before which the call stops */
+    volatile long left;                    /* how many instructions more until then; below 0 once it has */
     _Atomic pid_t task;                    /* the system's number of the call's thread */
+    _Atomic bool is_in_system, asks;       /* the call may sleep; or lets the other have its turn */
     _Atomic bool has_ended;                /* the call has */
-    sem_t goes;                            /* the other call may begin */
-    _Atomic bool has_begun, is_done;       /* it has begun, and has ended */
+    sem_t tells;                           /* one of these, or `left`, has changed */
+    sem_t goes, goes_on;                   /* the other call may begin; and the stopped one may go on */
+    _Atomic bool has_begun;                /* the other has begun */
+    _Atomic int dozing;                    /* how many threads doze, and will look again */
 } stepped;
 static _Thread_local volatile bool is_stepped;
+
+/* The places where a call comes back from what is not stepped through, in turn, from 1 on; 0 is its beginning. How many instructions were counted until
+ * then is so for the next run, too: that steps from the last place before its instruction on. */
+static struct {
+    long counts[MOST_PLACES];
+    int known, first, next;
+} places;
 
 extern const char __executable_start[], etext[];
 
@@ -50,70 +63,138 @@ static inline void clear_trap_flag(void)
     __asm__ volatile("lea -128(%%rsp), %%rsp; pushfq; andq $~0x100, (%%rsp); popfq; lea 128(%%rsp), %%rsp" ::: "memory", "cc");
 }
 
+/* The call has come to the next place. Answers whether it is stepped from here on. */
+static bool come_to_place(void)
+{
+    const int place = places.next++;
+    if (place < places.first || place >= MOST_PLACES)
+        return place >= MOST_PLACES;
+    if (place == places.first) {
+        stepped.left = stepped.number - places.counts[place];
+    } else {
+        places.counts[place] = stepped.number - stepped.left;
+        places.known = place;
+    }
+    return true;
+}
+
+/* Begins a run, whose last known place before its instruction is the first from which it is stepped. */
+static void begin_places(void)
+{
+    places.next = 1;
+    for (places.first = places.known; places.counts[places.first] > stepped.number; places.first--)
+        continue;
+}
+
+static void step_on(void)
+{
+    if (is_stepped && come_to_place())
+        set_trap_flag();
+}
+
+#define UNSTEPPED(call) \
+    __extension__({ \
+        clear_trap_flag(); \
+        const __auto_type answer_of_call = (call); \
+        step_on(); \
+        answer_of_call; \
+    })
+
 /* The dispatcher's calls are not stepped through, which are some thousand instructions. */
-static inline uint32_t go_on_after(uint32_t answer)
+#define nt_tick(...) UNSTEPPED(nt_tick(__VA_ARGS__))
+#define nt_due(...) UNSTEPPED(nt_due(__VA_ARGS__))
+#define nt_told(...) UNSTEPPED(nt_told(__VA_ARGS__))
+#define nt_pend(...) UNSTEPPED(nt_pend(__VA_ARGS__))
+#define nt_exit(...) UNSTEPPED(nt_exit(__VA_ARGS__))
+#define nt_begin(...) UNSTEPPED(nt_begin(__VA_ARGS__))
+#define nt_sleep(...) UNSTEPPED(nt_sleep(__VA_ARGS__))
+#define nt_opened(...) UNSTEPPED(nt_opened(__VA_ARGS__))
+#define nt_next_apc(...) UNSTEPPED(nt_next_apc(__VA_ARGS__))
+#define nt_set_event(...) UNSTEPPED(nt_set_event(__VA_ARGS__))
+#define nt_wait_object(...) UNSTEPPED(nt_wait_object(__VA_ARGS__))
+#define nt_close_handle(...) UNSTEPPED(nt_close_handle(__VA_ARGS__))
+
+/* Nor are the system's, in which the call may sleep. */
+static void enter_system(void)
+{
+    if (!is_stepped)
+        return;
+    stepped.is_in_system = true;
+    sem_post(&stepped.tells);
+}
+
+static long leave_system(long answer)
 {
     if (is_stepped)
-        set_trap_flag();
+        stepped.is_in_system = false;
     return answer;
 }
 
-#define nt_tick(...) (clear_trap_flag(), go_on_after(nt_tick(__VA_ARGS__)))
-#define nt_due(...) (clear_trap_flag(), go_on_after(nt_due(__VA_ARGS__)))
-#define nt_told(...) (clear_trap_flag(), go_on_after(nt_told(__VA_ARGS__)))
-#define nt_pend(...) (clear_trap_flag(), go_on_after(nt_pend(__VA_ARGS__)))
-#define nt_exit(...) (clear_trap_flag(), go_on_after(nt_exit(__VA_ARGS__)))
-#define nt_begin(...) (clear_trap_flag(), go_on_after(nt_begin(__VA_ARGS__)))
-#define nt_sleep(...) (clear_trap_flag(), go_on_after(nt_sleep(__VA_ARGS__)))
-#define nt_opened(...) (clear_trap_flag(), go_on_after(nt_opened(__VA_ARGS__)))
-#define nt_next_apc(...) (clear_trap_flag(), go_on_after(nt_next_apc(__VA_ARGS__)))
-#define nt_set_event(...) (clear_trap_flag(), go_on_after(nt_set_event(__VA_ARGS__)))
-#define nt_wait_object(...) (clear_trap_flag(), go_on_after(nt_wait_object(__VA_ARGS__)))
-#define nt_close_handle(...) (clear_trap_flag(), go_on_after(nt_close_handle(__VA_ARGS__)))
+#define syscall(...) UNSTEPPED((enter_system(), leave_system(syscall(__VA_ARGS__))))
+#define clock_gettime(clock, at) UNSTEPPED(clock_gettime(clock, at))
 
-static uint64_t us_now(void)
-{
-    struct timespec now;
-    clock_gettime(CLOCK_MONOTONIC, &now);
-    return (uint64_t)now.tv_sec * 1000000 + (uint64_t)now.tv_nsec / 1000;
-}
-
-static void doze(void)
+/* Who dozes looks again soon at what it waits for. */
+static inline void doze(void)
 {
     const struct timespec time = { .tv_nsec = 20000 };
+    stepped.dozing++;
     nanosleep(&time, NULL);
+    stepped.dozing--;
 }
 
-/* Lets the other call run to its end, or, where that waits for the stopped one, for a while. */
+static void wait_for(sem_t *semaphore)
+{
+    while (sem_wait(semaphore) != 0)
+        continue;
+}
+
+/* Lets the other call run, and each thread that it calls, until all sleep, or have ended. */
 static void let_the_other_run(void)
 {
-    sem_post(&stepped.goes);
-    while (!stepped.has_begun)
-        doze();
-    for (const uint64_t began = us_now(); !stepped.is_done && us_now() - began < US_FOR_THE_OTHER;)
-        doze();
+    stepped.asks = true;
+    sem_post(&stepped.tells);
+    wait_for(&stepped.goes_on);
 }
 
 /* Whether the call does not stop here: the test says so. */
 static bool is_passed_over(void);
 
-/* An instruction is about to run. */
+/* An instruction of the stepped thread is about to run. Answers whether it stops before that. */
+static bool stops_before(const char *at)
+{
+    if (at < __executable_start || at >= etext) {
+        if (at[0] == 0x0F && at[1] == 0x05)
+            enter_system();
+        return false;
+    }
+    stepped.is_in_system = false;
+    return !is_passed_over() && stepped.left-- <= 0;
+}
+
 static void on_trap(int signal, siginfo_t *info, void *context)
 {
     (void)signal, (void)info;
     greg_t *const registers = ((ucontext_t *)context)->uc_mcontext.gregs;
-    const char *at = (const char *)registers[REG_RIP];
-    if (is_stepped && (at < __executable_start || at >= etext || is_passed_over() || stepped.left-- > 0))
+    if (is_stepped && !stops_before((const char *)registers[REG_RIP]))
         return;
     const bool stops = is_stepped;
     registers[REG_EFL] &= ~TRAP_FLAG;
     is_stepped = false;
+    if (stops && stepped.inner != NULL)
+        sem_post(&stepped.tells);
     if (stops)
         (stepped.inner != NULL ? stepped.inner : let_the_other_run)();
 }
 
 /* A thread that ends by itself is stepped until the library's destructors have run; later, the system blocks signals. */
 static pthread_key_t stepping;
+
+static void end_stepping(void)
+{
+    is_stepped = false;
+    stepped.has_ended = true;
+    sem_post(&stepped.tells);
+}
 
 static void go_on_stepping(void *round)
 {
@@ -122,7 +203,7 @@ static void go_on_stepping(void *round)
     if (next < rounds + PTHREAD_DESTRUCTOR_ITERATIONS - 1)
         pthread_setspecific(stepping, next);
     else
-        is_stepped = false;
+        end_stepping();
 }
 
 static void begin_stepping(void)
@@ -137,22 +218,22 @@ static void *run_stepped(void *none)
     if (stepped.before != NULL)
         stepped.before();
     stepped.task = gettid();
-    pthread_setspecific(stepping, &stepping);
+    if (stepped.to_the_end)
+        pthread_setspecific(stepping, &stepping);
     is_stepped = true;
-    set_trap_flag();
+    if (places.first == 0)
+        set_trap_flag();
     stepped.call();
-    is_stepped = stepped.to_the_end;
-    stepped.has_ended = !stepped.to_the_end;
+    if (!stepped.to_the_end)
+        end_stepping();
     return none;
 }
 
 static void *run_other(void *none)
 {
-    while (sem_wait(&stepped.goes) != 0)
-        continue;
+    wait_for(&stepped.goes);
     stepped.has_begun = true;
     stepped.other();
-    stepped.is_done = true;
     return none;
 }
 
@@ -172,24 +253,100 @@ static bool is_asleep(pid_t task)
     return is_read && state != NULL && state[1] != '\0' && state[2] == 'S';
 }
 
+/* Whether all threads of the process sleep, but for the caller; of those that doze it is known that they do not. */
+static bool are_others_asleep(void)
+{
+    DIR *tasks = opendir("/proc/self/task");
+    bool are_asleep = tasks != NULL && stepped.dozing == 0;
+    for (struct dirent *entry; are_asleep && (entry = readdir(tasks)) != NULL;) {
+        const pid_t task = (pid_t)atoi(entry->d_name);
+        are_asleep = task <= 0 || task == gettid() || is_asleep(task);
+    }
+    if (tasks != NULL)
+        closedir(tasks);
+    return are_asleep && stepped.dozing == 0;
+}
+
+/* The processors' time that the process has used, in microseconds. */
+static uint64_t us_used(void)
+{
+    struct timespec used;
+    (clock_gettime)(CLOCK_PROCESS_CPUTIME_ID, &used);
+    return (uint64_t)used.tv_sec * 1000000 + (uint64_t)used.tv_nsec / 1000;
+}
+
+/* Waits until the other call has begun, and no thread does anything, or they only look again and again. */
+static void give_the_other_its_turn(void)
+{
+    const struct timespec time = { .tv_nsec = 20000 };
+    const uint64_t began = us_used();
+    while (!stepped.has_begun || (us_used() - began < US_FOR_THE_OTHER && !are_others_asleep()))
+        nanosleep(&time, NULL);
+}
+
+/* Waits until the call has stopped, has ended, or may sleep; and looks now and then by itself. Answers whether it sleeps. */
+static bool wait_for_call(void)
+{
+    struct timespec until;
+    (clock_gettime)(CLOCK_MONOTONIC, &until);
+    until.tv_nsec += MS_UNTIL_A_LOOK * 1000000;
+    if (until.tv_nsec >= 1000000000)
+        until = (struct timespec){ until.tv_sec + 1, until.tv_nsec - 1000000000 };
+    if (sem_clockwait(&stepped.tells, CLOCK_MONOTONIC, &until) != 0)
+        return is_asleep(stepped.task);
+    while (stepped.is_in_system && !stepped.asks && !stepped.has_ended) {
+        if (is_asleep(stepped.task))
+            return true;
+        sched_yield();
+    }
+    return false;
+}
+
+/* Sees the call to its end. The other call begins once it has stopped, or sleeps, or has ended. */
+static void run_call(void)
+{
+    for (bool goes = false, sleeps; !stepped.has_ended;) {
+        sleeps = wait_for_call();
+        if (!goes && (sleeps || stepped.asks || stepped.left < 0 || stepped.has_ended)) {
+            goes = true;
+            sem_post(&stepped.goes);
+        }
+        if (stepped.asks) {
+            give_the_other_its_turn();
+            stepped.asks = false;
+            sem_post(&stepped.goes_on);
+        }
+    }
+}
+
 /* Makes the call, which stops before its instruction of this number, from 0 on, for the other call; or that is made where it comes to no such
  * instruction, since it sleeps. Answers whether it came so far. */
 static bool step(act *call, act *other, long number)
 {
     pthread_t threads[2];
-    stepped.call = call, stepped.other = other, stepped.left = number;
-    stepped.has_begun = stepped.is_done = stepped.has_ended = false;
+    stepped.call = call, stepped.other = other, stepped.number = stepped.left = number;
+    stepped.has_begun = stepped.has_ended = stepped.asks = stepped.is_in_system = false;
     stepped.task = 0;
-    if (sem_init(&stepped.goes, 0, 0) != 0)
+    begin_places();
+    if (sem_init(&stepped.goes, 0, 0) != 0 || sem_init(&stepped.goes_on, 0, 0) != 0 || sem_init(&stepped.tells, 0, 0) != 0)
         abort();
     if (pthread_create(&threads[1], NULL, run_other, NULL) != 0 || pthread_create(&threads[0], NULL, run_stepped, NULL) != 0)
         abort();
-    while (stepped.left >= 0 && !stepped.has_ended && !is_asleep(stepped.task))
-        doze();
-    sem_post(&stepped.goes);
+    run_call();
     pthread_join(threads[0], NULL);
     pthread_join(threads[1], NULL);
     return stepped.left < 0;
+}
+
+/* Begins with a pair's first instruction, or goes on with the next, where the call came to the last. (Where it did not it may have gone another, shorter
+ * way: that one is tried again, from the call's beginning on.) Answers whether there is one. */
+static bool next_step(long *number, int *missed, bool came)
+{
+    *missed = came ? 0 : *missed + 1;
+    *number += came;
+    if (!came || *number == 0)
+        places.known = 0;
+    return *missed < MOST_MISSED;
 }
 
 #endif

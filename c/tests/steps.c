@@ -298,7 +298,7 @@ static void first_goes_on(void)
 {
     wake_one(word_of_first);
     for (int i = 0; i < 100 && !is_parked(&elsewhere); i++)
-        usleep(1);
+        doze();
 }
 
 static void both_go_on(void)
