@@ -331,6 +331,34 @@ static void later_signal_stays(void)
     IS(ran, seen);
 }
 
+/* ---- Two that set one wait: the object is waited for once, and no longer once the wait is unset. */
+
+static void CALLBACK note_object(PTP_CALLBACK_INSTANCE instance, PVOID none, PTP_WAIT wait, TP_WAIT_RESULT result)
+{
+    (void)instance, (void)none, (void)wait, (void)result;
+    ran++;
+}
+
+static void with_unset_wait(void)
+{
+    ran = 0;
+    must((wait_object = CreateThreadpoolWait(note_object, NULL, NULL)) != NULL);
+}
+
+static void set_wait(void)
+{
+    SetThreadpoolWait(wait_object, event, NULL);
+}
+
+static void unset_wait(void)
+{
+    SetThreadpoolWait(wait_object, NULL, NULL);
+    WaitForThreadpoolWaitCallbacks(wait_object, FALSE);
+    later_signal_stays();
+    IS(ran, 0);
+    CloseThreadpoolWait(wait_object);
+}
+
 int main(void)
 {
     struct sigaction touch = { .sa_sigaction = on_touch, .sa_flags = SA_SIGINFO }, hang = { .sa_handler = on_hang };
@@ -348,5 +376,6 @@ int main(void)
     try_pair("TrySubmitThreadpoolCallback, without a thread", with_group, submit_to_group, close_members, group_has_run, 100);
     is_full = false;
     try_pair("UnregisterWaitEx", with_registered, unregister, signal_once, later_signal_stays, 50);
+    try_pair("SetThreadpoolWait, twice at once", with_unset_wait, set_wait, set_wait, unset_wait, 50);
     return counted_checks();
 }

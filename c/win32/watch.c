@@ -13,16 +13,21 @@ struct watch {
     bool is_stopped;       /* `told` is not touched any more */
 };
 
-/* The object is not waited for any longer: what is signaled from now on stays so. */
-static void stop_watch(struct task *told)
+/* The object is not waited for any longer, under the latch: what is signaled from now on stays so. */
+static void drop_watch(struct task *told)
 {
-    take_latch(&pools_latch);
     struct watch *watch = told->watch;
     told->watch = NULL;
     if (watch != NULL) {
         watch->is_stopped = true;
         SetEvent(watch->stop);
     }
+}
+
+static void stop_watch(struct task *told)
+{
+    take_latch(&pools_latch);
+    drop_watch(told);
     give_latch(&pools_latch);
 }
 
@@ -89,16 +94,19 @@ static void free_watch(struct task *task)
     free(watch);
 }
 
-/* Puts a watch into the queue, where there is room for one more. Answers 0, or why not: then it is gone. */
+/* Puts a watch into the queue, where there is room for one more; it is the only one of what it tells, which another thread may have given one meanwhile.
+ * Answers 0, or why not: then it is gone. */
 static uint32_t put_watch(struct watch *watch)
 {
     take_latch(&pools_latch);
     if (watching_pool.tasks == WATCHES) {
         give_latch(&pools_latch);
+        watch->is_stopped = true;
         free_watch(&watch->task);
         return ERROR_NO_SYSTEM_RESOURCES;
     }
     watching_pool.tasks++;
+    drop_watch(watch->told);
     watch->told->watch = watch;
     return try_to_submit(&watch->task) ? 0 : own.last_error;
 }
@@ -120,8 +128,12 @@ static uint32_t begin_watch(struct task *told, const struct watch *how)
     }
     own.last_error = error;
     const uint32_t refused = put_watch(watch);
-    if (refused != 0)
-        stop_watch(told);
+    if (refused == 0)
+        return 0;
+    take_latch(&pools_latch);
+    if (told->watch == watch)
+        drop_watch(told);
+    give_latch(&pools_latch);
     return refused;
 }
 
