@@ -9,6 +9,7 @@
  * Its parts are one file for the compiler: so no inner name meets one of a program's, and the short ones are written in line. */
 #define _GNU_SOURCE
 #include "ntwin/inside.h"
+#include "schedule/own.h"
 
 #ifdef CHECKS_WAITING
 #include "ntwin/check.c"
@@ -139,6 +140,22 @@
 #include "schedule/strategies.c"
 
 #include "schedule/points.c"
+
+#include "schedule/posix.c"
+
+#include "schedule/posix_times.c"
+
+#include "schedule/posix_threads.c"
+
+#include "schedule/posix_locks.c"
+
+#include "schedule/posix_files.c"
+
+#include "schedule/posix_told.c"
+
+#include "schedule/memory.c"
+
+#include "schedule/stand_in.c"
 
 #include "schedule/decisions.c"
 

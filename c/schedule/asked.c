@@ -6,14 +6,14 @@
  * explore:BOUND[,COUNT]   all runs with a cost within the bound, but no more than COUNT (tree.c); explore:all has no bound
  * replay:FILE             the run that a file of decisions says
  *
- * and then, each after a `;`: steps=N (in a run at the most), time=free (a deadline may come although threads could run), minutes=M (no run begins
+ * and then, each after a `;`: steps=N (in a run at the most), time=free (a deadline may come although threads could run), races=pass (a race is no failure), minutes=M (no run begins
  * later), seconds=S (that a thread may run without a step), out=FILE (the decisions of the run that fails), trace=FILE (its steps). */
 
 /* How many runs a search makes at the most where that is not said. */
 enum { MOST_EXPLORED = 100000 };
 
 #define WHAT_CAN_STAND "random:SEED[,COUNT], pct:SEED,DEPTH[,COUNT], explore:BOUND[,COUNT], explore:all[,COUNT] or replay:FILE can stand there, " \
-                       "then ;steps=N ;time=free ;minutes=M ;seconds=S ;out=FILE ;trace=FILE"
+                       "then ;steps=N ;time=free ;races=pass ;minutes=M ;seconds=S ;out=FILE ;trace=FILE"
 
 /* Reads numbers with commas between them. Answers how many there are; 0 where it is not such a list, or one of more. */
 static uint32_t read_list(const char *text, uint64_t *numbers, uint32_t most)
@@ -90,6 +90,8 @@ static bool read_option(const char *option)
         schedule.most_steps = number;
     else if (strcmp(option, "time=free") == 0)
         schedule.is_free = true;
+    else if (strcmp(option, "races=pass") == 0)
+        schedule.passes_races = true;
     else if (length == 8 && strncmp(option, "minutes=", length) == 0 && read_time(value, &time))
         schedule.until = real_ns() + (uint64_t)(time * 60e9);
     else if (length == 8 && strncmp(option, "seconds=", length) == 0 && read_time(value, &time))
@@ -175,6 +177,7 @@ __attribute__((noinline, cold)) static void begin_schedule(const char *asked)
     schedule.now = UINT64_C(1000) * MOMENTS_PER_SECOND;
     process.looks = process.has_barriers = false;
     tells_knots = is_scheduled = true;
+    stand_in_for_all();
     made_by = looked_calls;
     if (schedule.strategy == BY_FILE)
         read_decisions(schedule.file);

@@ -32,7 +32,7 @@ static void come_to(enum point point);
 static void come_to_clock(void);
 static void come_in(void);
 static void sleep_scheduled(const _Atomic uint32_t *word, uint32_t seen, const struct timespec *until, uint32_t bits);
-static void wake_scheduled(const _Atomic uint32_t *word, int count, uint32_t bits);
+static int wake_scheduled(const void *word, int count, uint32_t bits);
 static uint64_t scheduled_time(void);
 static void schedule_thread(const struct seat *seat);
 static void unschedule_thread(const struct seat *seat);

@@ -34,6 +34,12 @@ __attribute__((noinline)) static void write_step(enum point point, uint32_t chos
 
 /* ---- The baton goes on. */
 
+static char *text_of_waits(void);
+static bool awaits_outside(void);
+static bool has_points(void);
+static void begin_in_memory(const struct scheduled *it);
+static void tell_before(const void *object);
+
 /* The next deadline comes: the time is no less than that. */
 static void jump(uint64_t deadline)
 {
@@ -46,7 +52,7 @@ static void jump(uint64_t deadline)
 __attribute__((noreturn)) static void end_waiting(enum verdict verdict)
 {
     look_whether_all_fitted();
-    end_run(verdict, text_of_why());
+    end_run(verdict, text_of_waits());
 }
 
 /* The caller is at a point. Answers who goes on; null where it was the last thread, and has ended. */
@@ -61,7 +67,7 @@ static struct scheduled *choose(enum point point)
         const struct stand stand = look_round();
         const uint32_t usual = usual_choice(point, &stand);
         const bool is_last = point == AT_END && schedule.alive == 0;
-        if (usual == NO_ONE && !is_last && awaits_arrival(point == AT_END))
+        if (usual == NO_ONE && !is_last && (awaits_arrival(point == AT_END) || awaits_outside()))
             continue;
         const uint32_t chosen = decide(point, usual, &stand);
         if (schedule.trace >= 0 && schedule.shared->steps >= schedule.trace_from)
@@ -192,10 +198,12 @@ __attribute__((noinline, cold)) static void sleep_scheduled(const _Atomic uint32
     errno = error;
 }
 
-/* Wakes those that fell asleep first. (A futex may be woken that nobody sleeps on any more, and that is memory of something else by now.) */
-__attribute__((noinline, cold)) static void wake_scheduled(const _Atomic uint32_t *word, int count, uint32_t bits)
+/* Wakes those that fell asleep first. Answers how many. (A futex may be woken that nobody sleeps on any more, and that is memory of something else by
+ * now.) */
+__attribute__((noinline, cold)) static int wake_scheduled(const void *word, int count, uint32_t bits)
 {
-    for (int woken = 0; woken < count; woken++) {
+    int woken = 0;
+    for (; woken < count; woken++) {
         struct scheduled *first = NULL;
         for (uint32_t i = 0; i < schedule.threads_count; i++) {
             struct scheduled *it = schedule.threads[i];
@@ -203,9 +211,11 @@ __attribute__((noinline, cold)) static void wake_scheduled(const _Atomic uint32_
                 first = it;
         }
         if (first == NULL)
-            return;
+            break;
+        first->was_woken = true;
         let_go_on(first);
     }
+    return woken;
 }
 
 /* ---- Threads. */
@@ -216,6 +226,8 @@ __attribute__((noinline, cold)) static void schedule_thread(const struct seat *s
     struct scheduled *it = make_thread();
     number_thread(it);
     it->seat = seat->number;
+    if (has_points())
+        tell_before(it);
 }
 
 /* The last thread that was to run in this seat. */
@@ -240,6 +252,7 @@ __attribute__((noinline, cold)) static void begin_scheduled(const struct seat *s
     struct scheduled *it = thread_in(seat->number);
     it->skips = 1;
     take_part(it);
+    begin_in_memory(it);
 }
 
 /* The caller ends, in the last round of its destructors: what those of the program call is scheduled, too. */
@@ -250,6 +263,9 @@ static void end_scheduled(void *round)
         return;
     me->state = IS_OVER;
     schedule.alive--;
+    if (has_points())
+        tell_before(me); /* (A sanitizer's runtime has left the thread by now, and knows joins itself.) */
+    wake_scheduled(me, INT_MAX, FUTEX_BITSET_MATCH_ANY);
     struct scheduled *after = choose(AT_END);
     is_beyond = true;
     if (after != NULL)

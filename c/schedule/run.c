@@ -25,7 +25,7 @@ enum { WRONG_WORDS = 2, HAS_FAILED, BOUND_MET };
 enum strategy { BY_CHANCE, BY_PRIORITY, BY_FILE, BY_TREE };
 
 /* How a run ended. */
-enum verdict { ENDED_WELL, HANGS, TIES_KNOT, NEVER_ENDS, STALLS, ENDS_BADLY, DOES_NOT_FIT, CANT_BE_EXPLORED };
+enum verdict { ENDED_WELL, HANGS, TIES_KNOT, NEVER_ENDS, STALLS, RACES, ENDS_BADLY, DOES_NOT_FIT, CANT_BE_EXPLORED };
 
 /* A thread, as the scheduler knows it. */
 struct scheduled {
@@ -42,6 +42,10 @@ struct scheduled {
     uint32_t idles;               /* how often it has yielded, or looked at the time, and did nothing else */
     int64_t priority;
     bool is_choosing;             /* it is at a point: what a handler of signals calls then is none */
+    bool was_woken;               /* its last sleep ended since another woke it, or what it waits for has come */
+    const struct blocked *blocked; /* the call of POSIX in which it sleeps (posix.c), or null */
+    pthread_t thread;
+    int id;                       /* its number in the system */
     struct scheduled *next;       /* among those that come by themselves */
 };
 
@@ -68,6 +72,7 @@ static struct {
     double most_seconds;          /* without a step */
     uint64_t until;               /* when no further run begins, in ns; or NEVER */
     bool is_free;                 /* a deadline may come although threads could run */
+    bool passes_races;            /* a race is no failure */
     char file[512];               /* of the decisions that are wanted, */
     char out[512], traced[512];   /* and to which decisions and steps are written; or empty */
     struct shared_run *shared;
@@ -125,7 +130,7 @@ static void seed_chance(uint64_t seed)
 static const char *words_of(uint32_t verdict)
 {
     static const char *const words[] = { "ends well", "HANGS: nothing can end the waits", "ties a KNOT", "does not end", "runs without a call",
-                                         "ends badly", "does not fit the file", "can't be explored" };
+                                         "has a RACE", "ends badly", "does not fit the file", "can't be explored" };
     return words[verdict];
 }
 

@@ -40,10 +40,13 @@ static void stay_on_processor(void)
 static void begin_run(void)
 {
     stay_on_processor();
+    begin_memory();
     list_wanted();
     if (pthread_key_create(&schedule.ending, end_scheduled) != 0)
         end_run_saying(ENDS_BADLY, "the scheduler gets no key\n");
     me = make_thread();
+    me->thread = pthread_self();
+    me->id = gettid();
     number_thread(me);
     pthread_setspecific(schedule.ending, ending_rounds);
 }

@@ -4,14 +4,14 @@
 static void wait_for_baton(struct scheduled *it)
 {
     while (atomic_load_explicit(&it->baton, memory_order_acquire) == 0)
-        syscall(SYS_futex, &it->baton, FUTEX_WAIT_PRIVATE, 0, NULL, NULL, 0);
+        (void)AS_OWN(syscall(SYS_futex, &it->baton, FUTEX_WAIT_PRIVATE, 0, NULL, NULL, 0));
     atomic_store_explicit(&it->baton, 0, memory_order_relaxed);
 }
 
 static void hand_baton(struct scheduled *it)
 {
     atomic_store_explicit(&it->baton, 1, memory_order_release);
-    syscall(SYS_futex, &it->baton, FUTEX_WAKE_PRIVATE, 1, NULL, NULL, 0);
+    (void)AS_OWN(syscall(SYS_futex, &it->baton, FUTEX_WAKE_PRIVATE, 1, NULL, NULL, 0));
 }
 
 /* ---- Threads come. */
@@ -36,7 +36,7 @@ static struct scheduled *make_thread(void)
     return it;
 }
 
-/* Those that CreateThread did not make, in the order in which they came. */
+/* Those whose beginning the scheduler did not see, in the order in which they came. */
 static struct {
     pthread_mutex_t turn;
     struct scheduled *first, **last;
@@ -54,7 +54,7 @@ static void admit_arrivals(void)
     pthread_mutex_unlock(&arrivals.turn);
 }
 
-/* Nobody can go on. Waits for a thread that CreateThread did not make, where the process has more threads than are known. (Of those the caller, which
+/* Nobody can go on. Waits for a thread whose beginning was not seen, where the process has more threads than are known. (Of those the caller, which
  * has ended, is one.) */
 static bool awaits_arrival(bool caller_has_ended)
 {
@@ -77,11 +77,13 @@ static char ending_rounds[PTHREAD_DESTRUCTOR_ITERATIONS];
 static void take_part(struct scheduled *it)
 {
     me = it;
+    it->thread = pthread_self();
+    it->id = gettid();
     pthread_setspecific(schedule.ending, ending_rounds);
     wait_for_baton(it);
 }
 
-/* The caller, which CreateThread did not make, comes as soon as others let it. */
+/* The caller, whose beginning was not seen, comes as soon as others let it. */
 static void come_by_itself(void)
 {
     struct scheduled *it = make_thread();
@@ -113,13 +115,15 @@ static void let_go_on(struct scheduled *it)
     it->since = ++schedule.turns;
 }
 
-/* Those whose deadline has come can go on. */
+static bool has_come_for(const struct scheduled *it);
+
+/* Those whose deadline has come can go on, and those for whom has come what they wait for. */
 static struct stand look_round(void)
 {
     struct stand stand = { 0, NEVER };
     for (uint32_t i = 0; i < schedule.threads_count; i++) {
         struct scheduled *it = schedule.threads[i];
-        if (it->state == IS_SLEEPING && it->until <= schedule.now)
+        if (it->state == IS_SLEEPING && (it->until <= schedule.now || has_come_for(it)))
             let_go_on(it);
         if (it->state == IS_SLEEPING && it->until < stand.deadline)
             stand.deadline = it->until;

@@ -1,0 +1,177 @@
+/* SPDX-License-Identifier: MIT OR Apache-2.0 */
+/* ---- Threads of POSIX: they are made, and waited for. */
+
+/* What a thread that pthread_create makes is to run, and as whom. */
+struct beginning {
+    struct scheduled *thread;
+    void *(*run)(void *);
+    void *parameter;
+};
+
+static void *run_from_beginning(void *at)
+{
+    const struct beginning beginning = *(const struct beginning *)at;
+    real.free(at);
+    beginning.thread->skips = 1; /* (To begin is its first point.) */
+    take_part(beginning.thread);
+    come_to(AT_CALL);
+    begin_in_memory(beginning.thread);
+    return beginning.run(beginning.parameter);
+}
+
+static int hooked_pthread_create(pthread_t *thread, const pthread_attr_t *attributes, void *(*run)(void *), void *parameter)
+{
+    if (!is_in_run())
+        return real.pthread_create(thread, attributes, run, parameter);
+    struct beginning *beginning = malloc(sizeof *beginning);
+    if (beginning == NULL)
+        return EAGAIN;
+    struct scheduled *it = make_thread();
+    *beginning = (struct beginning){ it, run, parameter };
+    number_thread(it);
+    tell_before(it);
+    const int error = real.pthread_create(thread, attributes, run_from_beginning, beginning);
+    if (error == 0) {
+        it->thread = *thread;
+    } else {
+        it->state = IS_OVER;
+        schedule.alive--;
+        real.free(beginning);
+    }
+    come_to(AT_CALL);
+    return error;
+}
+
+/* The thread of this name; null where the scheduler knows none, or the caller is it. (Names are given again: the last one is meant.) */
+static struct scheduled *other_thread(pthread_t thread)
+{
+    for (uint32_t i = schedule.threads_count; i-- > 0;)
+        if (pthread_equal(schedule.threads[i]->thread, thread) != 0)
+            return schedule.threads[i] != me ? schedule.threads[i] : NULL;
+    return NULL;
+}
+
+/* Waits until it has ended, to this moment at the longest. Answers whether it has; true of one that the scheduler does not know. */
+static bool has_ended_by(pthread_t thread, uint64_t until, const void *place)
+{
+    struct scheduled *it = other_thread(thread);
+    const struct blocked blocked = { "pthread_join", it, place, NULL };
+    while (it != NULL && it->state != IS_OVER) {
+        if (until <= schedule.now)
+            return false;
+        sleep_in(&blocked, until);
+    }
+    if (it != NULL)
+        tell_after(it);
+    return true;
+}
+
+static int hooked_pthread_join(pthread_t thread, void **value)
+{
+    if (comes_from_program())
+        has_ended_by(thread, NEVER, __builtin_return_address(0));
+    return real.pthread_join(thread, value);
+}
+
+static int hooked_pthread_tryjoin_np(pthread_t thread, void **value)
+{
+    if (comes_from_program())
+        return has_ended_by(thread, 0, NULL) ? real.pthread_join(thread, value) : EBUSY;
+    return real.pthread_tryjoin_np(thread, value);
+}
+
+static int hooked_pthread_timedjoin_np(pthread_t thread, void **value, const struct timespec *time)
+{
+    if (!is_time(time) || !comes_from_program())
+        return real.pthread_timedjoin_np(thread, value, time);
+    return has_ended_by(thread, moment_by(CLOCK_REALTIME, time), __builtin_return_address(0)) ? real.pthread_join(thread, value) : ETIMEDOUT;
+}
+
+static int hooked_pthread_clockjoin_np(pthread_t thread, void **value, clockid_t clock, const struct timespec *time)
+{
+    if (!is_time(time) || !is_clock_of_run(clock) || !comes_from_program())
+        return real.pthread_clockjoin_np(thread, value, clock, time);
+    return has_ended_by(thread, moment_by(clock, time), __builtin_return_address(0)) ? real.pthread_join(thread, value) : ETIMEDOUT;
+}
+
+/* ---- Once. The word has one bit while a thread is in the routine, which may leave it by an exception: one as the C library has it, and another as a
+ * sanitizer has. */
+
+static bool nobody_is_in(const void *control)
+{
+    enum { IS_IN_PROGRESS = 1, IS_IN_BESIDE_SANITIZER = 1 << 16 };
+    const unsigned bit = has_sanitizer() && !has_points() ? IS_IN_BESIDE_SANITIZER : IS_IN_PROGRESS;
+    return ((unsigned)*(const volatile pthread_once_t *)control & bit) == 0;
+}
+
+static int hooked_pthread_once(pthread_once_t *control, void (*routine)(void))
+{
+    const struct blocked blocked = { "pthread_once", control, __builtin_return_address(0), nobody_is_in };
+    if (!comes_from_program())
+        return real.pthread_once(control, routine);
+    while (!nobody_is_in(control))
+        sleep_in(&blocked, NEVER);
+    const int error = real.pthread_once(control, routine);
+    tell_before(control);
+    tell_after(control);
+    return error;
+}
+
+/* ---- Objects of C++ that the first caller makes. (What waits for another caller here sleeps on a word.) */
+
+static int hooked___cxa_guard_acquire(void *guard)
+{
+    const int makes = real.__cxa_guard_acquire(guard);
+    if (is_in_run())
+        tell_after(guard);
+    return makes;
+}
+
+static void hooked___cxa_guard_release(void *guard)
+{
+    if (is_in_run())
+        tell_before(guard);
+    real.__cxa_guard_release(guard);
+}
+
+/* ---- Words that the program itself sleeps on, as std::latch and std::atomic::wait of C++ do. */
+
+static long call_system(const long number, const long with[6])
+{
+    return real.syscall(number, with[0], with[1], with[2], with[3], with[4], with[5]);
+}
+
+static long wait_on_word(const void *place, const long with[6])
+{
+    const int operation = (int)with[1] & FUTEX_CMD_MASK;
+    const bool is_bitset = operation == FUTEX_WAIT_BITSET;
+    const struct timespec *time = (const struct timespec *)with[3];
+    const struct blocked blocked = { "futex", (const void *)with[0], place, NULL };
+    if (__atomic_load_n((const uint32_t *)with[0], __ATOMIC_SEQ_CST) != (uint32_t)with[2]) {
+        errno = EAGAIN;
+        return -1;
+    }
+    const clockid_t clock = (with[1] & FUTEX_CLOCK_REALTIME) != 0 ? CLOCK_REALTIME : CLOCK_MONOTONIC;
+    if (sleep_in(&blocked, time == NULL ? NEVER : is_bitset ? moment_by(clock, time) : moment_in(time)))
+        return 0;
+    errno = ETIMEDOUT;
+    return -1;
+}
+
+static long hooked_syscall(long number, ...)
+{
+    long with[6];
+    va_list rest;
+    va_start(rest, number);
+    for (int i = 0; i < 6; i++)
+        with[i] = va_arg(rest, long);
+    va_end(rest);
+    const int operation = number == SYS_futex ? (int)with[1] & FUTEX_CMD_MASK : -1;
+    const bool waits = operation == FUTEX_WAIT || operation == FUTEX_WAIT_BITSET;
+    const bool has_time = with[3] == 0 || is_time((const struct timespec *)with[3]);
+    if ((!(waits && has_time) && operation != FUTEX_WAKE && operation != FUTEX_WAKE_BITSET) || !comes_from_program())
+        return call_system(number, with);
+    if (waits)
+        return wait_on_word(__builtin_return_address(0), with);
+    return (long)wake_scheduled((const void *)with[0], (int)with[2], FUTEX_BITSET_MATCH_ANY);
+}
