@@ -17,7 +17,13 @@ struct {
     void (*order)(const volatile void *at, unsigned how);
 } ntwin_points;
 
-#define TOUCH(at, size, how) (ntwin_points.touch != NULL ? ntwin_points.touch((at), (size), (how), __builtin_return_address(0)) : (void)0)
+/* (What comes after the call keeps its caller's frame, by which reports name the access.) */
+#define TOUCH(at, size, how) \
+    do { \
+        if (ntwin_points.touch != NULL) \
+            ntwin_points.touch((at), (size), (how), __builtin_return_address(0)); \
+        __asm__ __volatile__(""); \
+    } while (0)
 
 /* The compilers know these names, and declare them otherwise. */
 #if defined __GNUC__ && !defined __clang__

@@ -10,51 +10,72 @@
 
 #define NTWIN_INLINE static __inline__ __attribute__((__unused__))
 
+/* Where a program is compiled with NTWIN_POINTS, and linked with points.c, a schedule of its threads may switch before each call (NTWIN_SCHEDULE). */
+#if defined NTWIN_POINTS && !defined __SANITIZE_THREAD__
+#ifdef __cplusplus
+extern "C"
+#endif
+void ntwin_come_to_memory(const volatile void *at, __SIZE_TYPE__ size);
+#define NTWIN_COME(at) ntwin_come_to_memory((at), 1)
+#else
+#define NTWIN_COME(at) ((void)0)
+#endif
+
 /* ---- What each call does, on one type and in one order, under the names that NAME makes. */
 
 #define NTWIN_COUNTS(NAME, type, memory) \
     NTWIN_INLINE type NAME(Increment)(type volatile *at) \
     { \
+        NTWIN_COME(at); \
         return __atomic_add_fetch(at, (type)1, memory); \
     } \
     NTWIN_INLINE type NAME(Decrement)(type volatile *at) \
     { \
+        NTWIN_COME(at); \
         return __atomic_sub_fetch(at, (type)1, memory); \
     } \
     NTWIN_INLINE type NAME(Add)(type volatile *at, type by) \
     { \
+        NTWIN_COME(at); \
         return __atomic_add_fetch(at, by, memory); \
     } \
     NTWIN_INLINE type NAME(ExchangeAdd)(type volatile *at, type by) \
     { \
+        NTWIN_COME(at); \
         return __atomic_fetch_add(at, by, memory); \
     } \
     NTWIN_INLINE type NAME(ExchangeSubtract)(type volatile *at, type by) \
     { \
+        NTWIN_COME(at); \
         return __atomic_fetch_sub(at, by, memory); \
     }
 
 #define NTWIN_BITS(NAME, type, memory) \
     NTWIN_INLINE type NAME(And)(type volatile *at, type bits) \
     { \
+        NTWIN_COME(at); \
         return __atomic_fetch_and(at, bits, memory); \
     } \
     NTWIN_INLINE type NAME(Or)(type volatile *at, type bits) \
     { \
+        NTWIN_COME(at); \
         return __atomic_fetch_or(at, bits, memory); \
     } \
     NTWIN_INLINE type NAME(Xor)(type volatile *at, type bits) \
     { \
+        NTWIN_COME(at); \
         return __atomic_fetch_xor(at, bits, memory); \
     }
 
 #define NTWIN_EXCHANGES(NAME, type, memory, seen_memory) \
     NTWIN_INLINE type NAME(Exchange)(type volatile *at, type value) \
     { \
+        NTWIN_COME(at); \
         return __atomic_exchange_n(at, value, memory); \
     } \
     NTWIN_INLINE type NAME(CompareExchange)(type volatile *at, type value, type comparand) \
     { \
+        NTWIN_COME(at); \
         __atomic_compare_exchange_n(at, &comparand, value, 0, memory, seen_memory); \
         return comparand; \
     }
@@ -64,16 +85,19 @@
     NTWIN_INLINE BOOLEAN NAME(BitTestAndSet)(type volatile *base, type bit) \
     { \
         const unsigned_type mask = (unsigned_type)1 << (bit & (width - 1)); \
+        NTWIN_COME(base); \
         return (__atomic_fetch_or((unsigned_type volatile *)base + bit / width, mask, memory) & mask) != 0; \
     } \
     NTWIN_INLINE BOOLEAN NAME(BitTestAndReset)(type volatile *base, type bit) \
     { \
         const unsigned_type mask = (unsigned_type)1 << (bit & (width - 1)); \
+        NTWIN_COME(base); \
         return (__atomic_fetch_and((unsigned_type volatile *)base + bit / width, (unsigned_type)~mask, memory) & mask) != 0; \
     } \
     NTWIN_INLINE BOOLEAN NAME(BitTestAndComplement)(type volatile *base, type bit) \
     { \
         const unsigned_type mask = (unsigned_type)1 << (bit & (width - 1)); \
+        NTWIN_COME(base); \
         return (__atomic_fetch_xor((unsigned_type volatile *)base + bit / width, mask, memory) & mask) != 0; \
     }
 
@@ -153,10 +177,12 @@ NTWIN_BIT_TESTS(NTWIN_PLAIN64, LONG64, ULONG64, 64, __ATOMIC_SEQ_CST)
 #define NTWIN_POINTERS(NAME, memory, seen_memory) \
     NTWIN_INLINE PVOID NAME(ExchangePointer)(PVOID volatile *at, PVOID value) \
     { \
+        NTWIN_COME(at); \
         return __atomic_exchange_n(at, value, memory); \
     } \
     NTWIN_INLINE PVOID NAME(CompareExchangePointer)(PVOID volatile *at, PVOID value, PVOID comparand) \
     { \
+        NTWIN_COME(at); \
         __atomic_compare_exchange_n(at, &comparand, value, 0, memory, seen_memory); \
         return comparand; \
     }
@@ -174,6 +200,7 @@ NTWIN_INLINE BYTE InterlockedCompareExchange128(LONG64 volatile *at, LONG64 high
 {
 #ifdef __x86_64__
     BYTE equal;
+    NTWIN_COME(at);
     __asm__ __volatile__("lock cmpxchg16b %1"
                          : "=@ccz"(equal), "+m"(*at), "+a"(comparand[0]), "+d"(comparand[1])
                          : "b"(low), "c"(high)
@@ -182,7 +209,7 @@ NTWIN_INLINE BYTE InterlockedCompareExchange128(LONG64 volatile *at, LONG64 high
 #else
     __extension__ typedef unsigned __int128 both __attribute__((__may_alias__));
     both wanted = (both)(ULONG64)comparand[1] << 64 | (ULONG64)comparand[0];
-    const both value = (both)(ULONG64)high << 64 | (ULONG64)low;
+    const both value = (NTWIN_COME(at), (both)(ULONG64)high << 64 | (ULONG64)low);
     const BYTE equal = __atomic_compare_exchange_n((both volatile *)at, &wanted, value, 0, __ATOMIC_SEQ_CST, __ATOMIC_SEQ_CST);
     comparand[0] = (LONG64)wanted;
     comparand[1] = (LONG64)(wanted >> 64);
@@ -295,18 +322,22 @@ NTWIN_OF_LONG(NTWIN_HALF_ULONG, unsigned long volatile *at, unsigned long, ULONG
 #define NTWIN_READS(type, read_acquire, read, write_release, write) \
     NTWIN_INLINE type read_acquire(type const volatile *at) \
     { \
+        NTWIN_COME(at); \
         return __atomic_load_n(at, __ATOMIC_ACQUIRE); \
     } \
     NTWIN_INLINE type read(type const volatile *at) \
     { \
+        NTWIN_COME(at); \
         return __atomic_load_n(at, __ATOMIC_RELAXED); \
     } \
     NTWIN_INLINE void write_release(type volatile *at, type value) \
     { \
+        NTWIN_COME(at); \
         __atomic_store_n(at, value, __ATOMIC_RELEASE); \
     } \
     NTWIN_INLINE void write(type volatile *at, type value) \
     { \
+        NTWIN_COME(at); \
         __atomic_store_n(at, value, __ATOMIC_RELAXED); \
     }
 
