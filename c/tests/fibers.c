@@ -153,7 +153,7 @@ static DWORD ended_with(LPTHREAD_START_ROUTINE start, LPVOID parameter)
     DWORD code = 99;
     HANDED_BACK = 0;
     HANDLE thread = CreateThread(NULL, 0, start, parameter, 0, NULL);
-    must(thread != NULL && WaitForSingleObject(thread, 10000) == WAIT_OBJECT_0 && GetExitCodeThread(thread, &code));
+    must(thread != NULL && WaitForSingleObject(thread, 100000) == WAIT_OBJECT_0 && GetExitCodeThread(thread, &code));
     CloseHandle(thread);
     IS(HANDED_BACK, 1);
     return code;
@@ -180,7 +180,7 @@ static LONG ROUNDS;
 static void WINAPI go_round(LPVOID event)
 {
     for (;;) {
-        IS(WaitForSingleObject(event, 5000), WAIT_OBJECT_0);
+        IS(WaitForSingleObject(event, 100000), WAIT_OBJECT_0);
         ROUNDS++;
         SetLastError(GetCurrentThreadId());
         SwitchToFiber(BACK);
@@ -206,7 +206,7 @@ static void from_thread_to_thread(void)
     run_rounds(fiber);
     for (int i = 0; i < 2; i++) {
         HANDLE thread = CreateThread(NULL, 0, run_rounds, fiber, 0, NULL);
-        IS(WaitForSingleObject(thread, 10000), WAIT_OBJECT_0);
+        IS(WaitForSingleObject(thread, 100000), WAIT_OBJECT_0);
         CloseHandle(thread);
     }
     run_rounds(fiber);

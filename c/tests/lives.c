@@ -314,7 +314,7 @@ static void times(void)
 
 static DWORD WINAPI wait_for(LPVOID event)
 {
-    return WaitForSingleObject(event, 5000);
+    return WaitForSingleObject(event, 100000);
 }
 
 /* A call that only looks at a thread tells nobody once more of what the call before has ended. */

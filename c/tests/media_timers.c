@@ -18,6 +18,12 @@ static void CALLBACK note(UINT timer, UINT message, DWORD_PTR user, DWORD_PTR fi
     InterlockedIncrement(&CAME);
 }
 
+static void CALLBACK note_end(UINT timer, UINT message, DWORD_PTR user, DWORD_PTR first, DWORD_PTR second)
+{
+    (void)timer, (void)message, (void)user, (void)first, (void)second;
+    must(SetEvent(EVENT));
+}
+
 static void refusals(void)
 {
     TIMECAPS caps;
@@ -29,6 +35,16 @@ static void refusals(void)
     ANSWERS(timeKillEvent(1), MMSYSERR_INVALPARAM, UNTOUCHED);
 }
 
+/* Waits until each callback that had begun has ended: another has been called, and they are all of one thread. */
+static void wait_for_callbacks(void)
+{
+    must(timeSetEvent(1, 0, note_end, 0, TIME_ONESHOT) != 0);
+    must(WaitForSingleObject(EVENT, INFINITE) == WAIT_OBJECT_0);
+}
+
+/* (This is long for a machine that is held up.) */
+enum { LONG_MS = 1000 };
+
 static void once_and_in_periods(void)
 {
     CAME = 0;
@@ -38,6 +54,7 @@ static void once_and_in_periods(void)
     IS(GetLastError(), UNTOUCHED);
     IS(settled(&CAME, 1), 1);
     IS(CAME_OF, timer);
+    wait_for_callbacks();
     ANSWERS(timeKillEvent(timer), MMSYSERR_INVALPARAM, UNTOUCHED);
     const UINT before = timer;
     timer = timeSetEvent(1, 1, note, USER, TIME_PERIODIC);
@@ -47,12 +64,12 @@ static void once_and_in_periods(void)
     ANSWERS(timeKillEvent(timer), TIMERR_NOERROR, UNTOUCHED);
     ANSWERS(timeKillEvent(timer), MMSYSERR_INVALPARAM, UNTOUCHED);
     /* (One that had begun may end after that.) */
-    Sleep(10);
+    wait_for_callbacks();
     const LONG came = ReadAcquire(&CAME);
     IS(later(&CAME), came);
-    timer = timeSetEvent(20, 0, note, USER, TIME_ONESHOT | TIME_KILL_SYNCHRONOUS);
+    timer = timeSetEvent(LONG_MS, 0, note, USER, TIME_ONESHOT | TIME_KILL_SYNCHRONOUS);
     ANSWERS(timeKillEvent(timer), TIMERR_NOERROR, UNTOUCHED);
-    Sleep(30);
+    Sleep(LONG_MS + 10);
     IS(ReadAcquire(&CAME), came);
 }
 
@@ -60,16 +77,16 @@ static void events(void)
 {
     const LPTIMECALLBACK event = (LPTIMECALLBACK)(ULONG_PTR)EVENT;
     IS(timeSetEvent(1, 0, event, 0, TIME_ONESHOT | TIME_CALLBACK_EVENT_SET) != 0, TRUE);
-    IS(WaitForSingleObject(EVENT, 10000), WAIT_OBJECT_0);
+    IS(WaitForSingleObject(EVENT, 100000), WAIT_OBJECT_0);
     UINT timer = timeSetEvent(1, 0, event, 0, TIME_PERIODIC | TIME_CALLBACK_EVENT_SET | TIME_KILL_SYNCHRONOUS);
     for (int i = 0; i < 3; i++)
-        IS(WaitForSingleObject(EVENT, 10000), WAIT_OBJECT_0);
+        IS(WaitForSingleObject(EVENT, 100000), WAIT_OBJECT_0);
     IS(timeKillEvent(timer), TIMERR_NOERROR);
     ResetEvent(EVENT);
     IS(WaitForSingleObject(EVENT, 20), WAIT_TIMEOUT);
     /* A pulse ends the waits that pend, and leaves nothing. */
     timer = timeSetEvent(1, 0, event, 0, TIME_PERIODIC | TIME_CALLBACK_EVENT_PULSE | TIME_KILL_SYNCHRONOUS);
-    IS(WaitForSingleObject(EVENT, 10000), WAIT_OBJECT_0);
+    IS(WaitForSingleObject(EVENT, 100000), WAIT_OBJECT_0);
     IS(timeKillEvent(timer), TIMERR_NOERROR);
     IS(WaitForSingleObject(EVENT, 0), WAIT_TIMEOUT);
 }
@@ -102,7 +119,9 @@ static void killed_as_they_run(void)
         const UINT timer = timeSetEvent(1, 0, take_a_while, 0, how | TIME_KILL_SYNCHRONOUS);
         while (ReadAcquire(&BEGAN) == 0)
             Sleep(1);
-        IS(timeKillEvent(timer), TIMERR_NOERROR);
+        /* (One that comes once may be gone.) */
+        const MMRESULT killed = timeKillEvent(timer);
+        IS(killed == TIMERR_NOERROR || (killed == MMSYSERR_INVALPARAM && how == TIME_ONESHOT), TRUE);
         const LONG began = ReadAcquire(&BEGAN);
         IS(ReadAcquire(&ENDED), began);
         IS(later(&BEGAN), began);

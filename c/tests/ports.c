@@ -1,6 +1,8 @@
 /* Completion ports: what each call answers with its last error, the order of packets and of threads, and packets among many threads. */
+#define _GNU_SOURCE
 #include <windows.h>
 
+#include "asleep.h"
 #include "check.h"
 
 #include <pthread.h>
@@ -94,14 +96,14 @@ static void rows(void)
     CloseHandle(event);
 }
 
-static LONG WAITERS, ORDER[THREADS], CAME;
+static LONG WAITER, ORDER[THREADS], CAME; /* (the first is the system's number of the thread that came last) */
 
 static void *get_one(void *number)
 {
     DWORD bytes;
     ULONG_PTR key;
     LPOVERLAPPED overlapped;
-    InterlockedIncrement(&WAITERS);
+    WriteRelease(&WAITER, gettid());
     must(GetQueuedCompletionStatus(PORT, &bytes, &key, &overlapped, INFINITE));
     ORDER[key] = *(LONG *)number;
     InterlockedIncrement(&CAME);
@@ -116,10 +118,11 @@ static void last_in_first_out(void)
     must((PORT = CreateIoCompletionPort(INVALID_HANDLE_VALUE, NULL, 0, 0)) != NULL);
     for (LONG i = 0; i < THREADS; i++) {
         numbers[i] = i;
+        WAITER = 0;
         must(pthread_create(&threads[i], NULL, get_one, &numbers[i]) == 0);
-        while (ReadAcquire(&WAITERS) <= i)
+        while (ReadAcquire(&WAITER) == 0)
             Sleep(1);
-        Sleep(30);
+        wait_until_asleep(WAITER);
     }
     for (ULONG_PTR i = 0; i < THREADS; i++) {
         must(PostQueuedCompletionStatus(PORT, 0, i, NULL));

@@ -9,9 +9,9 @@
 
 #define _GNU_SOURCE /* (as ntwin.c has it) */
 #include "../nt.h"
+#include "asleep.h"
 
 #include <dirent.h>
-#include <fcntl.h>
 #include <limits.h>
 #include <pthread.h>
 #include <semaphore.h>
@@ -235,22 +235,6 @@ static void *run_other(void *none)
     stepped.has_begun = true;
     stepped.other();
     return none;
-}
-
-/* Whether this thread sleeps in the system, or is gone. */
-static bool is_asleep(pid_t task)
-{
-    char path[64], text[64] = "";
-    snprintf(path, sizeof path, "/proc/self/task/%d/stat", (int)task);
-    if (task == 0)
-        return false;
-    const int file = open(path, O_RDONLY | O_CLOEXEC);
-    if (file < 0)
-        return true;
-    const bool is_read = read(file, text, sizeof text - 1) > 0;
-    close(file);
-    const char *state = strrchr(text, ')');
-    return is_read && state != NULL && state[1] != '\0' && state[2] == 'S';
 }
 
 /* Whether all threads of the process sleep, but for the caller; of those that doze it is known that they do not. */

@@ -115,10 +115,10 @@ static int lines_told(void)
     return lines;
 }
 
-/* Whether a line is told, after some seconds at the latest. */
+/* Whether a line is told, after a minute at the latest. */
 static int is_told(const char *line)
 {
-    for (int i = 0; i < 5000; i++) {
+    for (int i = 0; i < 60000; i++) {
         if (strstr(told(), line) != NULL)
             return 1;
         Sleep(1);
@@ -174,7 +174,7 @@ int main(void)
     EnterSynchronizationBarrier(&BARRIER, 0);
     InitOnceComplete(&ONCE, 0, NULL);
     ReleaseSRWLockExclusive(&LOCK);
-    for (int i = 0; i < 5000 && lines_told() > 3; i++)
+    for (int i = 0; i < 60000 && lines_told() > 3; i++)
         Sleep(1);
     IS(lines_told(), 3);
     return counted();

@@ -3,6 +3,7 @@
 #define _GNU_SOURCE
 #include <windows.h>
 
+#include "asleep.h"
 #include "check.h"
 
 #include <pthread.h>
@@ -24,20 +25,6 @@ static void *wait_for_event(void *task)
     return NULL;
 }
 
-/* Whether the system says that this thread of the process sleeps. */
-static int sleeps(LONG task)
-{
-    char path[64], text[256] = "";
-    snprintf(path, sizeof path, "/proc/self/task/%d/stat", (int)task);
-    FILE *file = task != 0 ? fopen(path, "r") : NULL;
-    if (file == NULL)
-        return 0;
-    const size_t length = fread(text, 1, sizeof text - 1, file);
-    fclose(file);
-    const char *state = length > 0 ? strrchr(text, ')') : NULL;
-    return state != NULL && state[1] == ' ' && state[2] == 'S';
-}
-
 /* All begin to wait, and the event is set once all sleep. (Each may sleep for a moment before it waits: so they are looked at twice.) */
 static void wake_a_crowd(void)
 {
@@ -51,7 +38,7 @@ static void wake_a_crowd(void)
     for (int look = 0; look < 2; look++) {
         usleep(5000);
         for (int i = 0; i < CROWD; i++)
-            while (!sleeps(ReadAcquire(&tasks[i])))
+            while (!is_asleep(ReadAcquire(&tasks[i])))
                 usleep(1000);
     }
     SetEvent(event);

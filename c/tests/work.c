@@ -57,10 +57,10 @@ static int threads_now(void)
     return found;
 }
 
-/* The same, once there are as many as wanted, or after some seconds. */
+/* The same, once there are as many as wanted, or after a minute. */
 static int threads_once(int wanted)
 {
-    for (int i = 0; i < 5000 && threads_now() != wanted; i++)
+    for (int i = 0; i < 60000 && threads_now() != wanted; i++)
         Sleep(1);
     return threads_now();
 }

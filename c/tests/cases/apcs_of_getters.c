@@ -10,7 +10,7 @@ enum { ROUNDS = 3 };
 
 static HANDLE port;
 static jmp_buf back;
-static LONG inner, left;
+static LONG inner, left, is_inner;
 
 static BOOL gets(DWORD ms, ULONG_PTR *key)
 {
@@ -50,7 +50,8 @@ static void CALLBACK gets_inner(ULONG_PTR none)
 {
     ULONG_PTR key = 0;
     (void)none;
-    inner = gets(5000, &key) ? (LONG)key : -1;
+    raise_flag(&is_inner);
+    inner = gets(INFINITE, &key) ? (LONG)key : -1;
 }
 
 /* Fills the stack below with something else. */
@@ -97,7 +98,7 @@ static DWORD gets_twice(LPVOID none)
     ULONG_PTR key = 0;
     (void)none;
     DWORD sum = gets_alertably(INFINITE, &key) == 0 && GetLastError() == WAIT_IO_COMPLETION ? 100 : 0;
-    if (gets_alertably(5000, &key) == 1)
+    if (gets_alertably(INFINITE, &key) == 1)
         sum += (DWORD)key;
     return sum;
 }
@@ -105,7 +106,7 @@ static DWORD gets_twice(LPVOID none)
 static DWORD code_of(HANDLE thread)
 {
     DWORD code = 0;
-    must(WaitForSingleObject(thread, 10000) == WAIT_OBJECT_0 && GetExitCodeThread(thread, &code));
+    must(WaitForSingleObject(thread, INFINITE) == WAIT_OBJECT_0 && GetExitCodeThread(thread, &code));
     CloseHandle(thread);
     return code;
 }
@@ -137,8 +138,9 @@ static void leave_calls(void)
 
 static void wait_within(void)
 {
-    inner = 0;
+    inner = is_inner = 0;
     HANDLE thread = begun(gets_twice, gets_inner, 0);
+    await(&is_inner);
     rest_ms(30);
     must(PostQueuedCompletionStatus(port, 0, 1, NULL));
     rest_ms(30);

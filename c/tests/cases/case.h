@@ -8,6 +8,7 @@
 #endif
 #include <windows.h>
 
+#include "../asleep.h"
 #include "../check.h"
 
 #include <errno.h>

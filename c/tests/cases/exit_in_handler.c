@@ -48,7 +48,7 @@ int main(void)
     const double began = now_ms();
     for (int i = 0; i < CHILDREN; i++) {
         int status = -1;
-        while (waitpid(children[i], &status, WNOHANG) == 0 && now_ms() - began < 10000)
+        while (waitpid(children[i], &status, WNOHANG) == 0 && now_ms() - began < 100000)
             rest_ms(1);
         IS(status, 0);
         if (status == -1)

@@ -74,10 +74,10 @@ static void work(void)
         SubmitThreadpoolWork(exits);
         SubmitThreadpoolWork(other);
         WaitForThreadpoolWorkCallbacks(exits, FALSE);
-        IS(WaitForSingleObject(DONE, 5000), WAIT_OBJECT_0);
+        IS(WaitForSingleObject(DONE, 100000), WAIT_OBJECT_0);
         WaitForThreadpoolWorkCallbacks(other, FALSE);
         IS(ReadAcquire(&RAN), i);
-        IS(WaitForSingleObject(THREAD, 5000), WAIT_OBJECT_0);
+        IS(WaitForSingleObject(THREAD, 100000), WAIT_OBJECT_0);
         must(GetExitCodeThread(THREAD, &code) && CloseHandle(THREAD));
         IS(code, 7);
     }

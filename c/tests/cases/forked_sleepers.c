@@ -27,7 +27,7 @@ static int forked(int (*does)(void))
 static void *sleeps_on_variable(void *ms)
 {
     AcquireSRWLockExclusive(&lock);
-    raise_flag(&is_up);
+    InterlockedExchange(&is_up, gettid());
     while (is_open == 0)
         if (!SleepConditionVariableSRW(&variable, &lock, (DWORD)(uintptr_t)ms, 0))
             break;
@@ -39,7 +39,7 @@ static void *sleeps_on_variable(void *ms)
 static void *waits_at_address(void *none)
 {
     LONG zero = 0;
-    raise_flag(&is_up);
+    InterlockedExchange(&is_up, gettid());
     while (InterlockedExchangeAdd(&word, 0) == 0)
         WaitOnAddress(&word, &zero, sizeof zero, INFINITE);
     raise_flag(&woken);
@@ -48,7 +48,7 @@ static void *waits_at_address(void *none)
 
 static void *wants_alone(void *none)
 {
-    raise_flag(&is_up);
+    InterlockedExchange(&is_up, gettid());
     AcquireSRWLockExclusive(&wanted);
     ReleaseSRWLockExclusive(&wanted);
     return none;
@@ -56,7 +56,7 @@ static void *wants_alone(void *none)
 
 static void *wants_to_share(void *none)
 {
-    raise_flag(&is_up);
+    InterlockedExchange(&is_up, gettid());
     AcquireSRWLockShared(&wanted);
     ReleaseSRWLockShared(&wanted);
     return none;
@@ -69,7 +69,7 @@ static pthread_t begun(void *(*does)(void *))
     InterlockedExchange(&is_up, 0);
     must(pthread_create(&thread, NULL, does, (void *)(uintptr_t)INFINITE) == 0);
     await(&is_up);
-    rest_ms(30);
+    wait_until_asleep(is_up);
     return thread;
 }
 

@@ -45,7 +45,7 @@ static LONG begins;
 
 static DWORD waits(LPVOID event)
 {
-    raise_flag(&begins);
+    InterlockedExchange(&begins, gettid());
     return WaitForSingleObject(event, INFINITE);
 }
 
@@ -100,7 +100,7 @@ int main(void)
     HANDLE event = CreateEvent(NULL, TRUE, FALSE, NULL), timer = CreateWaitableTimer(NULL, TRUE, NULL);
     HANDLE thread = CreateThread(NULL, 0, waits, event, 0, NULL);
     await(&begins);
-    rest_ms(50);
+    wait_until_asleep(begins);
     const LONG wakes_before = wakes;
     for (int i = 0; i < 50; i++)
         must(WaitForSingleObject(event, 1) == WAIT_TIMEOUT);

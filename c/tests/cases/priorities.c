@@ -4,7 +4,8 @@
  * earlier deadline, and does not run while the busy one does. The first thread's timeout comes in its time all the same. */
 #include "case.h"
 
-enum { TIMES = 5, HIGH = 10, BUSY = 5 };
+/* (A thread that has to wait for the usual one is late by 900 ms and more.) */
+enum { TIMES = 5, HIGH = 10, BUSY = 5, LATE_MS = 500 };
 
 static HANDLE never;
 static LONG stops;
@@ -56,7 +57,7 @@ int main(void)
             const double late = lateness(beside_usual);
             latest = late > latest ? late : latest;
         }
-        IS(latest < 100, 1);
+        IS(latest < LATE_MS, 1);
     }
     return counted();
 }

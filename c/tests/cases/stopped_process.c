@@ -3,7 +3,8 @@
  * A process is stopped for a while and goes on: a timer with a period has one callback for all that it missed, and the next when that is due. */
 #include "case.h"
 
-enum { PERIOD_MS = 5, STOPPED_MS = 500 };
+/* (Callbacks of a thread that is held up are called together, later: as many as this may be left.) */
+enum { PERIOD_MS = 5, STOPPED_MS = 2000, LEFT = 200 };
 
 static LONG POOL_TICKS, THREAD_TICKS;
 
@@ -27,7 +28,7 @@ static int stop_and_look(void)
     const double began = now_ms();
     rest_ms(30);
     const LONG more_of_pool = ReadAcquire(&POOL_TICKS) - of_pool, more_in_thread = ReadAcquire(&THREAD_TICKS) - in_thread;
-    const LONG most = 4 + (LONG)((now_ms() - began) / PERIOD_MS);
+    const LONG most = LEFT + (LONG)((now_ms() - began) / PERIOD_MS);
     IS(began - stopped >= STOPPED_MS, 1);
     IS(more_of_pool <= most, 1);
     IS(more_in_thread <= most, 1);
