@@ -1,5 +1,5 @@
-"""Builds a program: proved, or once for its sources without proofs. One run of a launcher builds in a clone at a time, and others wait for it
-and use what it built.
+"""Builds a program: proved, or once for its sources without proofs, and then the other program beside it. One run of a launcher builds in a clone at
+a time, and others wait for it and use what it built.
 """
 import contextlib
 import fcntl
@@ -8,6 +8,7 @@ import os
 import shutil
 import subprocess
 import tempfile
+import threading
 import time
 
 import kit
@@ -17,6 +18,8 @@ TOP = os.path.dirname(os.path.dirname(os.path.realpath(__file__)))
 LOCK = f"{TOP}/out/building"
 # The seconds that the last build took.
 TOOK = f"{TOP}/out/building_took"
+# The bytes that a build without proofs wants in the folder for temporary files: some 25 MB were seen to be used at once.
+ROOM = 64 << 20
 
 
 class NotBuilt(Exception):
@@ -35,6 +38,7 @@ class Program:
 
 NTRUN = Program("ntrun", ["script"], b"end: pending none\n")
 NTLOOK = Program("ntlook", ["why"], b":1: nobody waits\n")
+PROGRAMS = (NTRUN, NTLOOK)
 
 
 def judged_rt():
@@ -149,16 +153,17 @@ def keep_once_run(builder, pipe, wanted):
     return bool(program), builder.communicate()[0]
 
 
-def try_and_keep(crate, words, wanted):
+def try_and_keep(crate, words, wanted, builders):
     """Has `rt try` build the program of the crate in this folder, without proofs, and run it on a named pipe, and copies the program to `wanted` while it
     waits for its script there: `rt try` removes what it built as soon as the program ends. Answers whether it was kept, its exit status,
-    what it wrote, and the lines that were said."""
+    what it wrote, and the lines that were said. The process that builds is put among the builders, for whoever has to end it."""
     with tempfile.TemporaryDirectory(prefix="ntrun-") as folder, open(f"{folder}/said", "w+b") as said:
         pipe = f"{os.path.realpath(folder)}/script"
         os.mkfifo(pipe)
         how = {"stdin": subprocess.DEVNULL, "stdout": subprocess.PIPE, "stderr": said}
         how["env"] = {**os.environ, "TMPDIR": folder}
         builder = subprocess.Popen([kit.find_rt(), "try", "--", *words, pipe], cwd=crate, **how)
+        builders.append(builder)
         try:
             kept, wrote = keep_once_run(builder, pipe, wanted)
         except OSError as error:
@@ -177,37 +182,88 @@ def about_seconds():
     return "30 s on an idle machine"
 
 
-def build_unproved(built):
-    """Builds a program without proofs, and keeps it."""
-    judged_rt()
+def keep_unproved(built, builders):
+    """Builds one program without proofs, and keeps it. Where that fails, what was said of it is the second of the exception's arguments."""
     began = time.time_ns()
-    say(f"{WHO}: building the program without proofs, once for these sources; about {about_seconds()}")
-    with Progress("building", about_seconds()):
-        kept, status, wrote, told = try_and_keep(built.crate, built.words, f"{built.unproved}.new")
+    kept, status, wrote, told = try_and_keep(built.crate, built.words, f"{built.unproved}.new", builders)
     if status or not wrote.endswith(built.wrote):
-        say(*told)
-        raise NotBuilt("the program could not be built, or did not run")
+        raise NotBuilt("the program could not be built, or did not run", told)
     if not kept:
-        raise NotBuilt("the program was built, but could not be kept: use --proved")
+        raise NotBuilt("the program was built, but could not be kept: use --proved", [])
     os.utime(f"{built.unproved}.new", ns=(began, began))
     os.replace(f"{built.unproved}.new", built.unproved)
+
+
+class Beside:
+    """While it lasts, builds the other programs that are not built too. What comes of that shows once they are asked for."""
+
+    def __init__(self, built):
+        others = [it for it in PROGRAMS if it is not built and os.path.isdir(it.crate) and not is_built(it)]
+        self.builders = []
+        self.building = [threading.Thread(target=self.build, args=(it,), daemon=True) for it in others]
+
+    def build(self, built):
+        with contextlib.suppress(NotBuilt, OSError):
+            keep_unproved(built, self.builders)
+
+    def __enter__(self):
+        for it in self.building:
+            it.start()
+
+    def __exit__(self, failure, *_):
+        if failure:
+            for it in self.builders:
+                it.terminate()
+        for it in self.building:
+            it.join()
+
+
+def judge_room():
+    """Sees that there is room for what a build puts into the folder for temporary files."""
+    folder = tempfile.gettempdir()
+    free = shutil.disk_usage(folder).free
+    if free < ROOM:
+        raise NotBuilt(f"{folder} has room for {free >> 20} MB, and a build wants {ROOM >> 20} MB there: set TMPDIR to a folder with more")
+
+
+def build_unproved(built):
+    """Builds a program without proofs, and keeps it; and beside it the other one."""
+    judged_rt()
+    judge_room()
+    began = time.time_ns()
+    say(f"{WHO}: building ntrun and ntlook without proofs, once for these sources; about {about_seconds()}")
+    try:
+        with Progress("building", about_seconds()), Beside(built):
+            keep_unproved(built, [])
+    except NotBuilt as why:
+        say(*why.args[1:2] and why.args[1])
+        raise NotBuilt(why.args[0]) from why
     with open(TOOK, "w", encoding="ascii") as file:
         file.write(str((time.time_ns() - began) // 10**9))
 
 
+def is_proved(built):
+    return is_current(built.proved, ("src", "specs", "proofs"))
+
+
+def is_built(built):
+    """Whether the program of these sources is there, proved or not."""
+    return is_proved(built) or is_current(built.unproved, ("src", "specs"))
+
+
 def path_once_built(built):
     """The program that `path_of` answered."""
-    return built.proved if is_current(built.proved, ("src", "specs", "proofs")) else built.unproved
+    return built.proved if is_proved(built) else built.unproved
 
 
 def path_of(built):
     """The program of these sources: the proved one where it is built, else the unproved one, which is built where it has to be."""
-    if is_current(built.proved, ("src", "specs", "proofs")):
+    if is_proved(built):
         return built.proved
-    if not is_current(built.unproved, ("src", "specs")):
+    if not is_built(built):
         with alone():
             # (Another run may have built it meanwhile.)
-            if not is_current(built.unproved, ("src", "specs")):
+            if not is_built(built):
                 build_unproved(built)
     say(f"{WHO}: this is an unproved build; {WHO} --proved {built.words[0]} FILE proves the program first")
     return built.unproved

@@ -29,6 +29,19 @@ def why_not_open(path, cannot_open, not_read):
     return None
 
 
+def why_not_created(path):
+    """The reason why no file can be created at this path, or an existing one written. (One that could be after all is left as it was.)"""
+    try:
+        if os.path.lexists(path):
+            os.close(os.open(path, os.O_WRONLY | os.O_NOCTTY | os.O_NONBLOCK))
+        else:
+            os.close(os.open(path, os.O_WRONLY | os.O_CREAT | os.O_EXCL))
+            os.unlink(path)
+    except OSError as error:
+        return error.strerror
+    return "it could not be created, and now it could"
+
+
 def write_all(part):
     """Writes to standard output, and answers whether all was written."""
     with contextlib.suppress(OSError):
@@ -37,13 +50,18 @@ def write_all(part):
     return not part
 
 
+def tell(name, text):
+    """Writes the text for the program of this name, and answers the exit status."""
+    if write_all(text):
+        return 0
+    say(f"{name}: write failed")
+    return 1
+
+
 def tell_version(name):
     """Writes the name and the number in VERSION, and answers the exit status."""
     with open(f"{building.TOP}/VERSION", "rb") as file:
-        if write_all(f"{name} ".encode() + file.read()):
-            return 0
-    say(f"{name}: write failed")
-    return 1
+        return tell(name, f"{name} ".encode() + file.read())
 
 
 def run_and_show(built, words, what):

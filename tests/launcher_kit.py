@@ -35,6 +35,7 @@ def cells(path, beginning):
 COMMANDS = {
     "script": 'while read -r line; do :; done <"$1"; echo "end: pending ${WAITS:-none}"',
     "threads": 'echo threads "$@"',
+    "why": 'while read -r line; do :; done <"$1"; echo "$1:1: nobody waits"',
 }
 KIT = """#!/bin/sh
 [ "$1" = version ] && { echo "rattle-kit-0 logic ${LOGIC:-dac8208d650f15bf}"; exit; }
@@ -50,14 +51,15 @@ mkdir -p "${made%/*}" && cp /bin/sh "$made" && shift 2 && "$made" "$@"
 class Scratch:
     """A copy of the launcher over sources of its own, with the kit above."""
 
-    def __init__(self, folder):
+    def __init__(self, folder, programs=("ntrun",)):
         self.folder = f"{folder}/a clone"
         self.rt = f"{folder}/bin/rt"
         shutil.copytree(f"{TOP}/launcher", f"{self.folder}/launcher", ignore=shutil.ignore_patterns("__pycache__"))
-        shutil.copy(f"{TOP}/ntrun", self.folder)
+        for it in programs:
+            shutil.copy(f"{TOP}/{it}", self.folder)
         script = "threads 1\n"
-        held = {"crates.txt": "", "crates/ntrun/src/main.rt": "", "one.nts": script, "examples/hand_over.nts": script}
-        held |= {f"{at}{name}": text for at in ("", "crates/ntrun/") for name, text in COMMANDS.items()}
+        held = {"crates.txt": "", **{f"crates/{it}/src/main.rt": "" for it in programs}, "one.nts": script, "examples/hand_over.nts": script}
+        held |= {f"{at}{name}": text for at in ("", *(f"crates/{it}/" for it in programs)) for name, text in COMMANDS.items()}
         for path, text in [*((f"{self.folder}/{it}", text) for it, text in held.items()), (self.rt, KIT), (f"{self.rt}.runs", "")]:
             os.makedirs(os.path.dirname(path), exist_ok=True)
             write(path, text.encode("ascii"))
