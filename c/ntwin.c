@@ -122,9 +122,15 @@
 
 #include "win32/told.c"
 
-#include "ntwin/why.c"
-
 #include "ntwin/symbols.c"
+
+#include "ntwin/stacks.c"
+
+#include "ntwin/marks.c"
+
+#include "ntwin/deeds.c"
+
+#include "ntwin/why.c"
 
 #include "ntwin/lines.c"
 

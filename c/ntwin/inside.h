@@ -40,6 +40,7 @@
 #include <sys/stat.h>
 #include <sys/syscall.h>
 #include <sys/sysinfo.h>
+#include <sys/uio.h>
 #include <sys/wait.h>
 #include <time.h>
 #include <unistd.h>
@@ -124,6 +125,11 @@ struct runner {
     struct runner *next;     /* among those that have left */
 };
 
+/* Where a thread was in the program as its wait began to pend, with those registers by which its callers are found (stacks.c). */
+struct registers {
+    uintptr_t place, stack, saved[6]; /* saved: rbx, rbp, and r12 to r15 */
+};
+
 /* How many sleeping threads a call wakes once it has given the lock back. */
 enum { WOKEN_LATER = 64 };
 
@@ -156,7 +162,8 @@ struct seat {
     struct seat *next;       /* among the spare seats */
     uint32_t looks;          /* how often it looks at its word before it sleeps: 0 where that was in vain of late */
     const void *waits_at;    /* where in the program its last wait that pended was called, */
-    const void *calls_at;    /* and the call under way, where that is noted (noted.c) */
+    const void *calls_at;    /* and the call under way, where that is noted (noted.c); */
+    struct registers registers; /* and its registers then */
     bool tells;              /* its call has tied a knot, of which it tells as it gives the lock back */
     uint32_t woken[WOKEN_LATER]; /* the first of the threads that its call has told something while they slept, by their numbers */
 };

@@ -22,12 +22,18 @@ static char *text_of_knot(void)
     return text_written_by(write_why, NULL);
 }
 
-/* The same text with its places (places.c), in the place of this one. */
+/* What that function makes of this text, in the place of it. */
+static char *written_anew(void (*write)(struct report *to, const char *from), char *text)
+{
+    char *anew = text != NULL ? text_written_by(write, text) : NULL;
+    free(text);
+    return anew;
+}
+
+/* The same text with callers and places (places.c), in the place of this one. */
 static char *with_places(char *marked)
 {
-    char *text = marked != NULL ? text_written_by(write_with_places, marked) : NULL;
-    free(marked);
-    return text;
+    return written_anew(write_with_places, written_anew(write_with_callers, marked));
 }
 
 static char *text_of_why(void)

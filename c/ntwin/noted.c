@@ -41,6 +41,19 @@ __attribute__((always_inline)) static inline void note_call(struct seat *caller)
         caller->calls_at = __builtin_return_address(0);
 }
 
+/* Notes the caller's registers, as its wait begins to pend. (In line in what sleeps: so that frame is there while the wait pends.) */
+__attribute__((always_inline)) static inline void note_registers(struct seat *caller)
+{
+#if defined __x86_64__
+    if (noted != NULL)
+        __asm__ volatile("movq %%rbx, 16(%0)\n\tmovq %%rbp, 24(%0)\n\tmovq %%r12, 32(%0)\n\tmovq %%r13, 40(%0)\n\tmovq %%r14, 48(%0)\n\t"
+                         "movq %%r15, 56(%0)\n\tmovq %%rsp, 8(%0)\n\tleaq 0(%%rip), %%rax\n\tmovq %%rax, 0(%0)"
+                         : : "c"(&caller->registers) : "rax", "memory");
+#else
+    (void)caller;
+#endif
+}
+
 /* Where the call under way was made, which is asked for once. */
 static const void *place_of_call(struct seat *caller)
 {

@@ -5,15 +5,51 @@
 /* The mark that the text has next, or where it ends. */
 static const char *next_mark(const char *text)
 {
-    return text + strcspn(text, (const char[]){ MARK, MARK_OF_NAME, 0 });
+    return text + strcspn(text, (const char[]){ MARK, MARK_OF_NAME, MARK_OF_STACKS, MARK_OF_STACK, 0 });
 }
 
-/* What stands at this mark: the place of the call, and not of what comes after; or where a function begins. Answers where the text goes on. */
-static const char *read_mark(const char *mark, uintptr_t *address)
+/* The number at this mark. Answers where the text goes on. */
+static const char *read_number(const char *mark, uintptr_t *number)
 {
     char *end;
-    *address = (uintptr_t)strtoull(mark + 1, &end, 16) - (*mark == MARK);
+    *number = (uintptr_t)strtoull(mark + 1, &end, 16);
     return end + 1;
+}
+
+/* The same as an address: of the call, and not of what comes after; or where a function begins. */
+static const char *read_mark(const char *mark, uintptr_t *address)
+{
+    const char *end = read_number(mark, address);
+    *address -= *mark == MARK;
+    return end;
+}
+
+/* Writes who called there, each as a place. */
+static void write_callers(struct report *to, const struct stack *stack)
+{
+    uintptr_t callers[CALLERS_AT_MOST];
+    const size_t count = find_callers(stack, callers);
+    for (size_t i = 0; i < count; i++)
+        write_place(to, i == 0 ? ", called from " : ", ", (const void *)callers[i]);
+}
+
+/* Writes the text with who called in the place of stacks, which are freed. */
+static void write_with_callers(struct report *to, const char *text)
+{
+    struct stack *stacks = NULL;
+    uintptr_t number;
+    for (const char *mark; *(mark = next_mark(text)) != 0;) {
+        add(to, "%.*s", (int)(mark - text), text);
+        text = read_number(mark, &number);
+        if (*mark == MARK_OF_STACKS)
+            stacks = (struct stack *)number;
+        else if (*mark == MARK_OF_STACK)
+            write_callers(to, &stacks[number]);
+        else
+            write_mark(to, *mark, number);
+    }
+    add_text(to, text);
+    free(stacks);
 }
 
 /* Makes room for one place more. */

@@ -116,7 +116,11 @@ __attribute__((noinline, cold)) static DWORD fail_wait(struct seat *seat, uint32
 static inline DWORD finish_before_apcs(struct seat *seat, struct wait wait)
 {
     note(seat);
-    return sleep_until_granted(seat, dues_of(seat, wait));
+    const struct dues dues = dues_of(seat, wait);
+    note_registers(seat);
+    const DWORD status = sleep_until_granted(seat, dues);
+    atomic_signal_fence(memory_order_seq_cst); /* (So this frame is there meanwhile, and that is no jump.) */
+    return status;
 }
 
 /* The same. The caller's APCs run before. */

@@ -1,11 +1,5 @@
 /* SPDX-License-Identifier: MIT OR Apache-2.0 */
-/* ---- Why threads wait, as a text. It is made under the lock. A place in the program stands in it as a number between two marks until the lock is
- * given back (places.c): which file that is the loader tells, which has a lock of its own. */
-
-enum {
-    MARK = 1,        /* of the place that comes right after a call, */
-    MARK_OF_NAME = 2 /* and of where a function begins: for its name, after a space, or for nothing */
-};
+/* ---- Why threads wait, as a text. It is made under the lock. */
 
 /* What is known of all threads, under the lock. */
 static struct {
@@ -14,68 +8,10 @@ static struct {
     bool knot[NT_MANY_THREADS];         /* threads that hold each other */
     uint32_t waiting, running, held;       /* how many there are */
     struct nt_why why;
+    struct stack *stacks;                  /* of those that wait, where that is noted; or null */
+    size_t stacks_count, stacks_room;
     uint32_t handles[NT_MAXIMUM_HANDLES];  /* of an object, by its number: a handle that names it, or NO_HANDLE */
 } known;
-
-/* Writes a name, without what would spoil the line. */
-static void write_name_of(struct report *to, const char *name)
-{
-    for (; *name != 0; name++)
-        add_letter(to, (unsigned char)*name < ' ' || *name == 127 ? '?' : *name);
-}
-
-static void write_wide_name(struct report *to, const WCHAR *name)
-{
-    for (; *name != 0; name++)
-        add_letter(to, *name >= ' ' && *name < 127 ? (char)*name : '?');
-}
-
-/* Writes a place as a number between two of these marks. */
-static void write_mark(struct report *to, char mark, uintptr_t place)
-{
-    add(to, "%c%zx%c", mark, (size_t)place, mark);
-}
-
-/* Writes a thread by its number and its name; where the program gave it none, by the routine that it began with. */
-static void write_thread(struct report *to, uint32_t number)
-{
-    const WCHAR *name = waiting.seats[number].life.description;
-    add(to, "t%u", scheduled_number(number));
-    if (name != NULL && *name != 0) {
-        add_letter(to, ' ');
-        write_wide_name(to, name);
-    } else if (waiting.seats[number].start != NULL) {
-        write_mark(to, MARK_OF_NAME, (uintptr_t)waiting.seats[number].start);
-    } else if (waiting.seats[number].life.task == process.id) {
-        add_text(to, " main");
-    }
-}
-
-/* The seat of the thread that runs and has this id; null where none has it. */
-static struct seat *seat_of_id(DWORD id)
-{
-    for (uint32_t i = 0; i < waiting.seated; i++)
-        if (waiting.seats[i].life.id == id && !waiting.seats[i].has_left)
-            return &waiting.seats[i];
-    return NULL;
-}
-
-static void write_thread_of_id(struct report *to, DWORD id)
-{
-    const struct seat *seat = seat_of_id(id);
-    if (seat != NULL)
-        write_thread(to, seat->number);
-    else
-        write_id(to, id);
-}
-
-static void write_place(struct report *to, const char *before, const void *place)
-{
-    if (place == NULL)
-        return;
-    add_text(to, before);
-    write_mark(to, MARK, (uintptr_t)place);
-}
 
 /* ---- Objects. */
 
@@ -156,84 +92,6 @@ static void write_state(struct report *to, const struct nt_object *object)
     }
 }
 
-/* How long ago that was, by the coarse clock. */
-static void write_time_since(struct report *to, uint64_t when)
-{
-    const uint64_t now = coarsely(), since = now > when ? now - when : 0;
-    if (since < MOMENTS_PER_SECOND)
-        add(to, "%u ms ago", (unsigned)(since / (MOMENTS_PER_SECOND / 1000)));
-    else
-        add(to, "%llu.%u s ago", (unsigned long long)(since / MOMENTS_PER_SECOND), (unsigned)(since % MOMENTS_PER_SECOND / (MOMENTS_PER_SECOND / 10)));
-}
-
-/* Where and when what is noted was called. */
-static void write_call(struct report *to, const struct noted *it)
-{
-    write_place(to, " at ", it->place);
-    add_text(to, ", ");
-    write_time_since(to, it->when);
-}
-
-/* Who did what is noted, where, and when. (The thread's place may be another's by now.) */
-static void write_doer(struct report *to, const char *deed, const struct noted *it)
-{
-    const struct seat *seat = &waiting.seats[it->thread];
-    add_text(to, deed);
-    if (seat->life.began != it->began)
-        add_text(to, "a thread that has ended");
-    else
-        write_thread(to, it->thread);
-    write_call(to, it);
-}
-
-/* Which waits the call that is noted has ended. */
-static void write_ended(struct report *to, const struct noted *it)
-{
-    if (it->ended > 0)
-        add(to, ", which ended %u wait%s", it->ended, it->ended == 1 ? "" : "s");
-    else
-        add_text(to, it->was_awaited ? ", which ended no wait" : ", when nobody waited");
-}
-
-/* Where its owner took the mutex. */
-static void write_taking(struct report *to, const struct noted *it)
-{
-    add_text(to, it->deed == WAS_TAKEN ? "; taken" : "; owned since it was created");
-    if (it->deed == WAS_TAKEN)
-        write_call(to, it);
-}
-
-/* What was done last to the event or semaphore. */
-static void write_signal(struct report *to, uint32_t kind, const struct noted *it)
-{
-    switch (it->deed) {
-    case NOTHING_DONE:
-        add_text(to, kind == NT_EVENT ? "; nobody has set or pulsed it since it was created" : "; nobody has released it since it was created");
-        return;
-    case WAS_RESET:
-        write_doer(to, "; reset by ", it);
-        return;
-    case WAS_RELEASED:
-        write_doer(to, "; released by ", it);
-        add(to, ", by %d", it->count);
-        break;
-    default:
-        write_doer(to, it->deed == WAS_SET ? "; set by " : "; pulsed by ", it);
-    }
-    write_ended(to, it);
-}
-
-/* What was done last to the object, where that is noted. */
-static void write_deed(struct report *to, uint32_t number, const struct nt_object *object)
-{
-    if (noted == NULL)
-        return;
-    if (object->kind == NT_MUTEX && object->owned)
-        write_taking(to, &noted[number]);
-    if (object->kind == NT_EVENT || object->kind == NT_SEMAPHORE)
-        write_signal(to, object->kind, &noted[number]);
-}
-
 /* Whether the object is what it is called: the process and a completion port are events, for the dispatcher. */
 static bool is_as_called(uint32_t number)
 {
@@ -273,6 +131,25 @@ static void write_names(struct report *to, uint32_t thread, const struct nt_pend
     }
 }
 
+/* Makes room for the stacks of those that wait. */
+static void make_stacks(struct report *to)
+{
+    known.stacks_count = 0;
+    known.stacks_room = known.waiting < STACKS_AT_MOST ? known.waiting : STACKS_AT_MOST;
+    known.stacks = noted != NULL && known.stacks_room > 0 ? malloc(known.stacks_room * sizeof *known.stacks) : NULL;
+    if (known.stacks != NULL)
+        write_mark(to, MARK_OF_STACKS, (uintptr_t)known.stacks);
+}
+
+/* Copies the stack of a thread whose wait pends, for who called there. */
+static void write_stack(struct report *to, uint32_t thread)
+{
+    if (known.stacks == NULL || known.stacks_count == known.stacks_room)
+        return;
+    take_stack(&waiting.seats[thread], &known.stacks[known.stacks_count]);
+    write_mark(to, MARK_OF_STACK, known.stacks_count++);
+}
+
 /* A line for a thread whose wait pends, and one for each object of that. */
 static void write_pending(struct report *to, uint32_t thread)
 {
@@ -290,6 +167,7 @@ static void write_pending(struct report *to, uint32_t thread)
     }
     add_text(to, wait.alertable ? ", alertable" : "");
     write_place(to, ", in ", waiting.seats[thread].waits_at);
+    write_stack(to, thread);
     add_letter(to, '\n');
     for (size_t i = 0; i < wait.count && nt_waited_object(&waiting.dispatcher, thread, i, &number) == 0; i++)
         write_object_line(to, number);
@@ -393,6 +271,7 @@ static void write_all(struct report *to)
 {
     look_at_threads();
     find_handles();
+    make_stacks(to);
     add(to, "ntwin: %u thread%s wait%s, %u run%s", known.waiting, known.waiting == 1 ? "" : "s", known.waiting == 1 ? "s" : "", known.running,
             known.running == 1 ? "s" : "");
     if (known.held > 1)
@@ -406,4 +285,6 @@ static void write_all(struct report *to)
     if (!told_all.is_whole)
         add_text(to, "  not all threads could be looked at\n");
     write_verdict(to);
+    if (to->failed)
+        free(known.stacks);
 }
