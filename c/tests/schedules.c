@@ -230,6 +230,7 @@ int main(int count, char **words)
     printf("%llu calls, %llu waits, %llu of them ended later, %llu timeouts, %llu called to look at the time, ", sums.calls, sums.waits,
            sums.grants, sums.timeouts, sums.calls_up);
     printf("%llu APCs, %llu threads made, %llu ends\n", sums.apcs, sums.threads, sums.ends);
+    tell_counts(programs);
     printf("%llu passed, 0 failed\n", (unsigned long long)programs);
     return 0;
 }

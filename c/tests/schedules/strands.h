@@ -114,7 +114,9 @@ static bool one_in(uint32_t count)
     return below(count) == 0;
 }
 
-/* ---- What does not hold ends the test. */
+/* ---- What does not hold ends the test, with the trace to there. */
+
+static void write_trace(void);
 
 __attribute__((format(printf, 1, 2), noreturn)) static void broken(const char *format, ...)
 {
@@ -126,6 +128,7 @@ __attribute__((format(printf, 1, 2), noreturn)) static void broken(const char *f
     putchar('\n');
     va_end(list);
     fflush(stdout);
+    write_trace();
     _Exit(1);
 }
 

@@ -38,7 +38,7 @@ static long sleep_on_word(void *word, uint32_t value, uint64_t until)
             tell_end_of_sleep(word);
             return -1;
         }
-        const bool is_interrupted = one_in(50);
+        const bool is_interrupted = one_in(8);
         me->word = word;
         me->is_woken = false;
         me->until = is_interrupted && run.now + 1000 < until ? run.now + below(1000) : until;

@@ -5,9 +5,13 @@
 
 #include "strands.h"
 
-enum { SEATS_TOLD = 64, THREADS_TOLD = SEATS_TOLD + MOST_STRANDS };
+enum {
+    SEATS_TOLD = 64,
+    THREADS_TOLD = SEATS_TOLD + MOST_STRANDS,
+    RUNS_WITH_ALL = 3000 /* so many make each step */
+};
 
-static const char *const step_names[] = {
+static const char *const step_names[STEPS] = {
 #define STEP_TEXT(name) [name] = #name,
     LOCK_STEPS(STEP_TEXT) LOCK_STEPS_ON_OTHERS(STEP_TEXT) LOCK_STEPS_ON_FAVOURED(STEP_TEXT)
 };
@@ -165,7 +169,7 @@ static void tell_wake(const volatile void *word, struct strand *woken)
         woken->is_told_asleep = false;
 }
 
-/* ---- The trace is written once the run has ended. */
+/* ---- The trace is written once a run has ended, and how often each step was made once all have. */
 
 static void write_trace(void)
 {
@@ -183,6 +187,22 @@ static void write_trace(void)
             fprintf(trace.file, "lock %s %u\n", step_names[told->step], told->thread);
     }
     trace.count = 0;
+    fflush(trace.file);
+}
+
+/* Ends the test where a step was never made in so many runs. (Only where a handler of signals interrupts its thread does that wake who sleeps on its
+ * own `inside`, and these programs have none.) */
+static void tell_counts(uint64_t runs)
+{
+    if (trace.file == NULL)
+        return;
+    for (int step = 0; step < STEPS; step++)
+        if (step_names[step] != NULL) {
+            printf("%s %llu, ", step_names[step], trace.counts[step]);
+            if (trace.counts[step] == 0 && step != PaysOne && runs >= RUNS_WITH_ALL)
+                broken("no run has made the step %s", step_names[step]);
+        }
+    printf("as the trace has them\n");
 }
 
 #endif
