@@ -79,12 +79,20 @@ static void ask(const char *command, char *const *words, char *to, size_t room, 
     to[length] = 0;
 }
 
+static char *path_at_start; /* with NTWIN_WHY, PATH as it was before main: later another thread may change it */
+
+static void keep_path(void)
+{
+    const char *path = secure_getenv("PATH");
+    path_at_start = path != NULL ? strdup(path) : NULL;
+}
+
 /* Finds a program with one of these names in PATH. (Not by PATH in a program that has more rights than who began it, nor in a folder that depends on
  * where it runs.) */
 static bool find_command(char path[PATH_MAX])
 {
     static const char *const names[] = { "addr2line", "eu-addr2line", "llvm-addr2line" };
-    const char *all = secure_getenv("PATH");
+    const char *all = noted != NULL ? path_at_start : secure_getenv("PATH");
     for (size_t i = 0; i < sizeof names / sizeof *names; i++)
         for (const char *at = all; at != NULL && *at != 0; at += strcspn(at, ":"), at += *at == ':') {
             const size_t length = strcspn(at, ":");

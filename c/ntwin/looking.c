@@ -226,6 +226,7 @@ static void begin_looking(const char *why, const char *path)
         aborts = strcmp(why, "abort") == 0;
         tells_knots = aborts || strcmp(why, "knot") == 0;
         if (tells_knots || strcmp(why, "signal") == 0) {
+            keep_path();
             begin_noting();
             begin_telling();
         } else {
