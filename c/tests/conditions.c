@@ -64,7 +64,7 @@ static void condition_variables(void)
     EnterCriticalSection(&SECTION);
     ANSWERS(SleepConditionVariableCS(&VARIABLE, &SECTION, 0), FALSE, ERROR_TIMEOUT);
     SECTION_IS(SECTION, 0, 1, GetCurrentThreadId());
-    const ULONGLONG then = GetTickCount64();
+    const DWORD then = timeGetTime();
     ANSWERS(SleepConditionVariableCS(&VARIABLE, &SECTION, 20), FALSE, ERROR_TIMEOUT);
     IS(ms_since(then) >= 20, 1);
     LeaveCriticalSection(&SECTION);
@@ -180,7 +180,7 @@ static void waits_on_an_address(void)
         ANSWERS(WaitOnAddress(&value, &same, sizes[i], 0), FALSE, ERROR_TIMEOUT);
         ANSWERS(WaitOnAddress(&value, &other_high, sizes[i], 0), sizes[i] == 8, sizes[i] == 8 ? UNTOUCHED : ERROR_TIMEOUT);
     }
-    const ULONGLONG then = GetTickCount64();
+    const DWORD then = timeGetTime();
     ANSWERS(WaitOnAddress(&value, &same, 8, 20), FALSE, ERROR_TIMEOUT);
     IS(ms_since(then) >= 20, 1);
     ANSWERS(WaitOnAddress(&value, &same, 3, 0), FALSE, ERROR_INVALID_PARAMETER);

@@ -29,9 +29,9 @@ static inline void join_all(void)
     while (!(holds)) \
     sched_yield()
 
-static inline uint64_t ms_since(ULONGLONG then)
+static inline uint64_t ms_since(DWORD then)
 {
-    return GetTickCount64() - then;
+    return timeGetTime() - then;
 }
 
 /* What a critical section's fields tell. */

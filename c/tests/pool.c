@@ -221,10 +221,10 @@ static void timer_queues(void)
     LONG steps = 0, other_steps = 0;
     TIMEOUTS = SIGNALS = 0;
     ANSWERS((queue = CreateTimerQueue()) != NULL, TRUE, UNTOUCHED);
-    const ULONGLONG then = GetTickCount64();
+    const DWORD then = timeGetTime();
     ANSWERS(CreateTimerQueueTimer(&timer, queue, note_wait, DONE, 20, 0, WT_EXECUTEDEFAULT), TRUE, UNTOUCHED);
     IS(WaitForSingleObject(DONE, INFINITE), WAIT_OBJECT_0);
-    IS(GetTickCount64() - then >= 20, 1);
+    IS(timeGetTime() - then >= 20, 1);
     IS(settled(&TIMEOUTS, 1), 1);
     /* (It is over: to change it does nothing.) */
     ANSWERS(ChangeTimerQueueTimer(queue, timer, 0, 0), TRUE, UNTOUCHED);

@@ -50,9 +50,9 @@ static void rows(void)
     must((port = CreateIoCompletionPort(INVALID_HANDLE_VALUE, NULL, 0, 0)) != NULL);
     IS(GetLastError(), UNTOUCHED);
     GETS_NONE(port, 0, WAIT_TIMEOUT);
-    const ULONGLONG then = GetTickCount64();
+    const DWORD then = timeGetTime();
     GETS_NONE(port, 20, WAIT_TIMEOUT);
-    IS(GetTickCount64() - then >= 20, 1);
+    IS(timeGetTime() - then >= 20, 1);
     ANSWERS(PostQueuedCompletionStatus(port, 1, 10, &overlapped), TRUE, UNTOUCHED);
     ANSWERS(PostQueuedCompletionStatus(port, 2, 20, NULL), TRUE, UNTOUCHED);
     ANSWERS(PostQueuedCompletionStatus(port, 0xFFFFFFFF, ~(ULONG_PTR)0, NULL), TRUE, UNTOUCHED);

@@ -179,10 +179,10 @@ static void timers(void)
     CREATES(timer, CreateWaitableTimer(NULL, TRUE, NULL));
     NO_CREATION(CreateWaitableTimerEx(NULL, NULL, 2, TIMER_ALL_ACCESS), ERROR_INVALID_PARAMETER);
     ANSWERS(WaitForSingleObject(timer, 0), WAIT_TIMEOUT, UNTOUCHED);
-    const ULONGLONG began = GetTickCount64();
+    const DWORD began = timeGetTime();
     ANSWERS(SetWaitableTimer(timer, &soon, 0, NULL, NULL, FALSE), TRUE, UNTOUCHED);
     ANSWERS(WaitForSingleObject(timer, INFINITE), WAIT_OBJECT_0, UNTOUCHED);
-    IS(GetTickCount64() - began >= 4, 1);
+    IS(timeGetTime() - began >= 4, 1);
     ANSWERS(SetWaitableTimer(timer, &late, 0, NULL, NULL, FALSE), TRUE, UNTOUCHED);
     ANSWERS(WaitForSingleObject(timer, 1), WAIT_TIMEOUT, UNTOUCHED);
     ANSWERS(SetWaitableTimer(timer, &past, 0, NULL, NULL, FALSE), TRUE, UNTOUCHED);

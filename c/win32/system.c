@@ -231,9 +231,11 @@ BOOL LocalFileTimeToFileTime(const FILETIME *from, LPFILETIME to)
     return TRUE;
 }
 
+/* (Of programs that ask for a period of 1 ms: to the ms.) */
 DWORD timeGetTime(void)
 {
-    return GetTickCount();
+    may_switch_at_clock();
+    return (DWORD)(monotonic() / (MOMENTS_PER_SECOND / 1000));
 }
 
 MMRESULT timeBeginPeriod(UINT ms)
