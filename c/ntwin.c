@@ -167,6 +167,8 @@
 
 #include "schedule/runs.c"
 
+#include "schedule/progress.c"
+
 #include "schedule/failure.c"
 
 #include "schedule/tree.c"

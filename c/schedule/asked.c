@@ -6,11 +6,12 @@
  * explore:BOUND[,COUNT]   all runs with a cost within the bound, but no more than COUNT (tree.c); explore:all has no bound
  * replay:FILE             the run that a file of decisions says
  *
- * and then, each after a `;`: steps=N (in a run at the most), time=free (a deadline may come although threads could run), races=pass (a race is no failure), minutes=M (no run begins
- * later), seconds=S (that a thread may run without a step), out=FILE (the decisions of the run that fails), trace=FILE (its steps). */
+ * and then, each after a `;`: steps=N (in a run at the most), time=free (a deadline may come although threads could run), races=pass (a race is no
+ * failure), minutes=M (no run begins later), seconds=S (that a thread may run without a step), out=FILE (the decisions of the run that fails),
+ * trace=FILE (its steps), part=K,N (of a search one part of N), progress=FILE (how far it is). */
 
 /* How many runs a search makes at the most where that is not said. */
-enum { MOST_EXPLORED = 100000 };
+enum { MOST_EXPLORED = 100000, MOST_PARTS = 4096 };
 
 #define WHAT_CAN_STAND "random:SEED[,COUNT], pct:SEED,DEPTH[,COUNT], explore:BOUND[,COUNT], explore:all[,COUNT] or replay:FILE can stand there, " \
                        "then ;steps=N ;time=free ;races=pass ;minutes=M ;seconds=S ;out=FILE ;trace=FILE"
@@ -80,6 +81,17 @@ static bool read_time(const char *text, double *time)
     return end != text && *end == 0 && *time > 0 && *time < 1e9;
 }
 
+/* Reads which part of a search this is, from 0 on, and of how many: K,N. */
+static bool read_part(const char *text)
+{
+    uint64_t numbers[2] = { 0, 0 };
+    if (schedule.strategy != BY_TREE || read_list(text, numbers, 2) != 2 || numbers[0] >= numbers[1] || numbers[1] > MOST_PARTS)
+        return false;
+    schedule.part = (uint32_t)numbers[0];
+    schedule.parts = (uint32_t)numbers[1];
+    return true;
+}
+
 static bool read_option(const char *option)
 {
     uint64_t number = 0;
@@ -100,6 +112,10 @@ static bool read_option(const char *option)
         return take_path(schedule.out, value);
     else if (length == 6 && strncmp(option, "trace=", length) == 0)
         return take_path(schedule.traced, value);
+    else if (length == 9 && strncmp(option, "progress=", length) == 0)
+        return take_path(schedule.progress, value);
+    else if (length == 5 && strncmp(option, "part=", length) == 0)
+        return read_part(value);
     else
         return false;
     return true;
@@ -137,6 +153,15 @@ static void name_run(char *to, size_t room, uint64_t seed)
         snprintf(to, room, "random:%llu%s", (unsigned long long)seed, time);
 }
 
+static struct {
+    uint64_t made;
+} runs;
+
+static double share_of_runs(void)
+{
+    return (double)runs.made / (double)schedule.count;
+}
+
 /* Makes runs until one fails, or as many as were asked for. */
 __attribute__((noreturn)) static void make_runs(void)
 {
@@ -145,6 +170,7 @@ __attribute__((noreturn)) static void make_runs(void)
     char name[64];
     for (uint64_t i = 0; i < schedule.count; i++) {
         if (real_ns() >= schedule.until) {
+            end_progress();
             dprintf(1, "ntwin: %llu schedules, none fails, and then the minutes were over; %llu steps in the longest\n", (unsigned long long)i,
                     (unsigned long long)longest);
             _exit(BOUND_MET);
@@ -156,7 +182,10 @@ __attribute__((noreturn)) static void make_runs(void)
         name_run(name, sizeof name, schedule.seed + i);
         if (verdict != ENDED_WELL)
             tell_failure(name, i + 1, began);
+        runs.made = i + 1;
+        tell_progress(i + 1, longest, share_of_runs);
     }
+    end_progress();
     name_run(name, sizeof name, schedule.seed);
     dprintf(1, "ntwin: %llu schedules from %s on, none fails; %llu steps in the longest, %.2f s\n", (unsigned long long)schedule.count, name,
             (unsigned long long)longest, seconds_since(began));
@@ -183,6 +212,7 @@ __attribute__((noinline, cold)) static void begin_schedule(const char *asked)
         read_decisions(schedule.file);
     if (schedule.count > 0) {
         begin_making();
+        begin_progress();
         if (schedule.strategy == BY_TREE)
             tree = reserve(sizeof *tree, MAP_SHARED);
         if (setjmp(program) != 0)

@@ -96,6 +96,7 @@ __attribute__((noreturn)) static void tell_failure(const char *name, uint64_t nu
 {
     const struct failure failure = { schedule.shared->verdict, schedule.shared->made_count, schedule.shared->preemptions, maker.status };
     const double seconds = seconds_since(began);
+    end_progress();
     kept = malloc(sizeof schedule.shared->made);
     if (kept == NULL)
         refuse("ntwin: NTWIN_SCHEDULE: out of memory");

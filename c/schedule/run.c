@@ -75,6 +75,8 @@ static struct {
     bool passes_races;            /* a race is no failure */
     char file[512];               /* of the decisions that are wanted, */
     char out[512], traced[512];   /* and to which decisions and steps are written; or empty */
+    char progress[512];           /* and to which it is written how far the search is */
+    uint32_t part, parts;         /* of a search this part of so many; or of 0, where it is the whole */
     struct shared_run *shared;
     bool has_maker, makes;        /* another process makes this run; this one makes runs */
     bool must_fit;                /* each decision that is wanted has to be possible, */

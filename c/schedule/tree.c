@@ -66,24 +66,58 @@ static uint32_t choice_after(const struct node *node, uint32_t chosen)
     return NO_ONE;
 }
 
+/* The same, of a cost within the bound. */
+static uint32_t choice_within(const struct node *node, uint32_t chosen, uint32_t bound)
+{
+    do
+        chosen = choice_after(node, chosen);
+    while (chosen != NO_ONE && node->spent + cost_of((enum point)node->point, node->usual, chosen) > bound);
+    return chosen;
+}
+
+/* ---- A part of a search: of the paths' beginnings, this many choices long, each part goes on with those whose turn it is. */
+
+enum { BEGINNING = 5 };
+
+static uint64_t beginnings; /* how many came before that of this path */
+
+static bool is_of_this_part(void)
+{
+    return schedule.parts == 0 || beginnings % schedule.parts == schedule.part;
+}
+
 /* Asks for the next path of a cost within the bound. False where the last run was the last one. */
 static bool ask_for_next(uint32_t bound)
 {
-    for (uint32_t at = tree->count; at-- > 0;) {
-        const struct node *node = &tree->nodes[at];
-        uint32_t next = node->chosen;
-        do
-            next = choice_after(node, next);
-        while (next != NO_ONE && node->spent + cost_of((enum point)node->point, node->usual, next) > bound);
+    for (uint32_t at = is_of_this_part() || tree->count < BEGINNING ? tree->count : BEGINNING; at-- > 0;) {
+        const uint32_t next = choice_within(&tree->nodes[at], tree->nodes[at].chosen, bound);
         if (next == NO_ONE)
             continue;
         for (uint32_t i = 0; i < at; i++)
             tree->asked[i] = tree->nodes[i].chosen;
         tree->asked[at] = (uint16_t)next;
         tree->prefix = at + 1;
+        beginnings += at < BEGINNING;
         return true;
     }
     return false;
+}
+
+static uint32_t bound_of_share;
+
+/* Of all paths the share that is done, if each choice leads to as many. */
+static double share_of_tree(void)
+{
+    double share = 0, all = 1;
+    for (uint32_t at = 0; at < tree->count; at++) {
+        const struct node *node = &tree->nodes[at];
+        uint32_t choices = 1, before = 0;
+        for (uint32_t it = node->usual; (it = choice_within(node, it, bound_of_share)) != NO_ONE; choices++)
+            before = it == node->chosen ? choices : before;
+        all /= choices;
+        share += all * before;
+    }
+    return share;
 }
 
 /* How far a search came. */
@@ -94,6 +128,7 @@ struct exploration {
 __attribute__((noreturn)) static void meet_bound(const struct exploration *search, const char *what, uint32_t bound)
 {
     char whole[48] = "";
+    end_progress();
     if (bound != MOST_BOUND)
         snprintf(whole, sizeof whole, "; none of a cost below %u was left out", bound);
     dprintf(1, "ntwin: explore: %llu runs, none fails, and then %s%s; %.2f s\n", (unsigned long long)search->runs, what, whole,
@@ -115,12 +150,16 @@ static void look_whether_asked(void)
 static void explore_bound(struct exploration *search, uint32_t bound)
 {
     tree->prefix = 0;
-    search->of_bound = 0;
+    search->of_bound = beginnings = 0;
+    bound_of_share = bound;
     do {
         if (search->runs == schedule.count || real_ns() >= schedule.until)
             meet_bound(search, search->runs == schedule.count ? "as many were made as may be" : "the minutes were over", bound);
         tree->count = 0;
         make_run(false);
+        tell_progress(search->runs, search->longest, share_of_tree);
+        if (!is_of_this_part())
+            continue;
         search->runs++;
         search->of_bound++;
         if (schedule.shared->steps > search->longest)
@@ -129,6 +168,7 @@ static void explore_bound(struct exploration *search, uint32_t bound)
         if (schedule.shared->verdict != ENDED_WELL)
             tell_failure("explore", search->runs, search->began);
     } while (ask_for_next(bound));
+    end_progress();
     char cost[32] = "";
     if (bound != MOST_BOUND)
         snprintf(cost, sizeof cost, " of a cost within %u", bound);
@@ -137,14 +177,14 @@ static void explore_bound(struct exploration *search, uint32_t bound)
             seconds_since(search->began));
 }
 
-/* Tries them for each bound up to this one, or at once for the greatest. Where a bound brings no further schedule there is none. */
+/* Tries them for each bound up to this one, or at once for the greatest, and in parts. Where a bound brings no further schedule there is none. */
 __attribute__((noreturn)) static void explore(uint32_t bound)
 {
     struct exploration search = { .began = real_ns() };
     uint64_t before = 0;
-    for (uint32_t i = bound == MOST_BOUND ? bound : 0; i <= bound; i++) {
+    for (uint32_t i = bound == MOST_BOUND || schedule.parts > 0 ? bound : 0; i <= bound; i++) {
         explore_bound(&search, i);
-        if ((search.of_bound == before || i == MOST_BOUND) && !tree->is_cut) {
+        if ((search.of_bound == before || i == MOST_BOUND) && !tree->is_cut && schedule.parts == 0) {
             dprintf(1, "ntwin: explore: these are all schedules\n");
             break;
         }
