@@ -1,6 +1,6 @@
 /* SPDX-License-Identifier: MIT OR Apache-2.0 */
-/* Points at memory for NTWIN_SCHEDULE (docs/SCHEDULES.md). A program that is compiled, but not linked, with -fsanitize=thread comes here before it reads
- * or writes memory, and for each atomic step; a program that is compiled with -DNTWIN_POINTS, before each interlocked call. The scheduler looks for
+/* Points at memory for NTWIN_SCHEDULE (docs/SCHEDULES.md). A program that is compiled, but not linked, with -fsanitize=thread comes here before it
+ * reads or writes memory, and for each atomic step; a program that is compiled with -DNTWIN_POINTS, before each interlocked call. The scheduler looks for
  * races, and may let another thread go on. Without a scheduler nothing happens but the access.
  *
  *     cc -fsanitize=thread -g -c program.c

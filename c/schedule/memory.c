@@ -181,18 +181,20 @@ static void forget_memory(uintptr_t from, size_t size)
     }
 }
 
+extern size_t malloc_usable_size(void *block); /* (As malloc.h has it, which a test can't include that stands in for malloc.) */
+
 static void hooked_free(void *block)
 {
     if (block != NULL && memory.cells != NULL && me != NULL && !is_apart())
         forget_memory((uintptr_t)block / CELL * CELL, malloc_usable_size(block) + CELL);
-    real.free(block);
+    (real.free)(block);
 }
 
 static void *hooked_realloc(void *block, size_t size)
 {
     if (block != NULL && memory.cells != NULL && me != NULL && !is_apart())
         forget_memory((uintptr_t)block / CELL * CELL, malloc_usable_size(block) + CELL);
-    return real.realloc(block, size);
+    return (real.realloc)(block, size);
 }
 
 /* The caller begins as this thread: after what its maker did, and nothing is known of its stack, which another thread may have had. */

@@ -15,14 +15,31 @@ static _Thread_local volatile uint32_t own_calls __attribute__((tls_model("initi
         own_calls--; \
         answer_; \
     }))
+/* (A test may have its own of one.) */
+#ifndef pthread_create
 #define pthread_create(...) AS_OWN(pthread_create(__VA_ARGS__))
+#endif
+#ifndef pthread_mutex_lock
 #define pthread_mutex_lock(...) AS_OWN(pthread_mutex_lock(__VA_ARGS__))
+#endif
+#ifndef pthread_mutex_trylock
 #define pthread_mutex_trylock(...) AS_OWN(pthread_mutex_trylock(__VA_ARGS__))
+#endif
+#ifndef pthread_mutex_unlock
 #define pthread_mutex_unlock(...) AS_OWN(pthread_mutex_unlock(__VA_ARGS__))
+#endif
+#ifndef pthread_tryjoin_np
 #define pthread_tryjoin_np(...) AS_OWN(pthread_tryjoin_np(__VA_ARGS__))
+#endif
+#ifndef nanosleep
 #define nanosleep(...) AS_OWN(nanosleep(__VA_ARGS__))
+#endif
+#ifndef clock_nanosleep
 #define clock_nanosleep(...) AS_OWN(clock_nanosleep(__VA_ARGS__))
+#endif
+#ifndef dlopen
 #define dlopen(...) AS_OWN(dlopen(__VA_ARGS__))
+#endif
 #endif
 
 #endif

@@ -1,7 +1,6 @@
 /* SPDX-License-Identifier: MIT OR Apache-2.0 */
 /* ---- What a program calls beside Win32's names: threads, locks, sleeps and clocks of POSIX, which the scheduler stands in for. Each object is the
  * system's own: it is tried, and where that would wait the caller sleeps by the scheduler until another thread gives it back. */
-#include <malloc.h>
 #include <poll.h>
 #include <semaphore.h>
 #include <sys/select.h>

@@ -1,6 +1,6 @@
 /* SPDX-License-Identifier: MIT OR Apache-2.0 */
-/* ---- What comes by descriptors. Who waits for that sleeps until it has come, or its deadline has; others go on meanwhile. Where nobody can go on and
- * nothing is due, the run waits for what comes from outside (`awaits_outside`). */
+/* ---- What comes by descriptors. Who waits for that sleeps until it has come, or its deadline has; others go on meanwhile. Where nobody can go on
+ * and nothing is due, the run waits for what comes from outside (`awaits_outside`). */
 
 /* The descriptors that a call waits for. (So many are looked at; who asks for more waits by the system.) */
 struct polled {
@@ -89,8 +89,8 @@ static int hooked_accept(int file, __SOCKADDR_ARG address, socklen_t *length)
     return real.accept(file, address, length);
 }
 
-/* Nobody can go on, and nothing is due. Waits half as long as a run may be without a step, where threads wait for input: by the system's clock. Answers
- * whether one can go on. */
+/* Nobody can go on, and nothing is due. Waits half as long as a run may be without a step, where threads wait for input: by the system's clock.
+ * Answers whether one can go on. */
 static bool awaits_outside(void)
 {
     const struct timespec pause = { .tv_nsec = 1000000 };

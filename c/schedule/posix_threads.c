@@ -11,7 +11,7 @@ struct beginning {
 static void *run_from_beginning(void *at)
 {
     const struct beginning beginning = *(const struct beginning *)at;
-    real.free(at);
+    (real.free)(at);
     beginning.thread->skips = 1; /* (To begin is its first point.) */
     take_part(beginning.thread);
     come_to(AT_CALL);
@@ -36,7 +36,7 @@ static int hooked_pthread_create(pthread_t *thread, const pthread_attr_t *attrib
     } else {
         it->state = IS_OVER;
         schedule.alive--;
-        real.free(beginning);
+        (real.free)(beginning);
     }
     come_to(AT_CALL);
     return error;

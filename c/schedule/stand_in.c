@@ -11,7 +11,8 @@ static const struct {
     void *real; /* where the system's own is kept */
 } stand_ins[] = {
 #define STANDS_IN(name) { #name, (function *)hooked_##name, &real.name }
-    STANDS_IN(__cxa_guard_acquire), STANDS_IN(__cxa_guard_release), STANDS_IN(accept), STANDS_IN(clock_gettime), STANDS_IN(clock_nanosleep), STANDS_IN(free), STANDS_IN(gettimeofday),
+    STANDS_IN(__cxa_guard_acquire), STANDS_IN(__cxa_guard_release), STANDS_IN(accept), STANDS_IN(clock_gettime),
+    STANDS_IN(clock_nanosleep), STANDS_IN(free), STANDS_IN(gettimeofday),
     STANDS_IN(nanosleep), STANDS_IN(poll), STANDS_IN(pthread_barrier_destroy), STANDS_IN(pthread_barrier_init), STANDS_IN(pthread_barrier_wait),
     STANDS_IN(pthread_clockjoin_np), STANDS_IN(pthread_cond_broadcast), STANDS_IN(pthread_cond_clockwait), STANDS_IN(pthread_cond_signal),
     STANDS_IN(pthread_cond_timedwait), STANDS_IN(pthread_cond_wait), STANDS_IN(pthread_create), STANDS_IN(pthread_join),
@@ -20,7 +21,8 @@ static const struct {
     STANDS_IN(pthread_rwlock_rdlock), STANDS_IN(pthread_rwlock_timedrdlock), STANDS_IN(pthread_rwlock_timedwrlock),
     STANDS_IN(pthread_rwlock_tryrdlock), STANDS_IN(pthread_rwlock_trywrlock), STANDS_IN(pthread_rwlock_unlock), STANDS_IN(pthread_rwlock_wrlock),
     STANDS_IN(pthread_spin_lock), STANDS_IN(pthread_spin_trylock), STANDS_IN(pthread_spin_unlock), STANDS_IN(pthread_timedjoin_np),
-    STANDS_IN(pthread_tryjoin_np), STANDS_IN(read), STANDS_IN(realloc), STANDS_IN(recv), STANDS_IN(sched_yield), STANDS_IN(select), STANDS_IN(sem_clockwait),
+    STANDS_IN(pthread_tryjoin_np), STANDS_IN(read), STANDS_IN(realloc), STANDS_IN(recv), STANDS_IN(sched_yield), STANDS_IN(select),
+    STANDS_IN(sem_clockwait),
     STANDS_IN(sem_post), STANDS_IN(sem_timedwait), STANDS_IN(sem_trywait), STANDS_IN(sem_wait), STANDS_IN(sleep), STANDS_IN(syscall),
     STANDS_IN(time), STANDS_IN(usleep),
 };
@@ -111,7 +113,8 @@ static void read_module(struct linked *module, const ElfW(Dyn) *it)
 /* The system's own modules, the sanitizers', and what unwinds stacks, call what they always do. */
 static bool is_left_alone(const char *path)
 {
-    static const char *const left[] = { "ld-linux", "ld.so", "libc.so", "libpthread", "libm.so", "libdl.so", "librt.so", "libgcc_s", "libtsan", "libasan",
+    static const char *const left[] = { "ld-linux", "ld.so", "libc.so", "libpthread", "libm.so", "libdl.so", "librt.so", "libgcc_s", "libtsan",
+                                        "libasan",
                                         "liblsan", "libubsan", "linux-vdso", "libntwin.so", "vgpreload" };
     const char *name = strrchr(path, '/') != NULL ? strrchr(path, '/') + 1 : path;
     for (size_t i = 0; i < sizeof left / sizeof *left; i++)
