@@ -289,9 +289,10 @@ static bool wait_for_call(void)
 /* Sees the call to its end. The other call begins once it has stopped, or sleeps, or has ended. */
 static void run_call(void)
 {
-    for (bool goes = false, sleeps; !stepped.has_ended;) {
-        sleeps = wait_for_call();
-        if (!goes && (sleeps || stepped.asks || stepped.left < 0 || stepped.has_ended)) {
+    bool goes = false;
+    while (!stepped.has_ended) {
+        const bool sleeps = wait_for_call();
+        if (!goes && (sleeps || stepped.asks || stepped.left < 0)) {
             goes = true;
             sem_post(&stepped.goes);
         }
@@ -301,6 +302,8 @@ static void run_call(void)
             sem_post(&stepped.goes_on);
         }
     }
+    if (!goes)
+        sem_post(&stepped.goes);
 }
 
 /* Makes the call, which stops before its instruction of this number, from 0 on, for the other call; or that is made where it comes to no such
