@@ -9,7 +9,7 @@
 #include "../ntwin/inside.h"
 static void *take_page(size_t size);
 static void give_page(void *at);
-static bool is_full; /* the system has no thread more */
+static volatile bool is_full; /* the system has no thread more */
 #define malloc(size) UNSTEPPED(take_page(size))
 #define calloc(count, size) UNSTEPPED(take_page((count) * (size)))
 #define free(at) (clear_trap_flag(), give_page(at), step_on())
@@ -294,6 +294,41 @@ static void group_has_run(void)
         doze();
 }
 
+/* ---- Who waits for work tries again to have the thread that was refused, beside a callback that can be refused: it is, since no thread is there. */
+
+static void with_refused_work(void)
+{
+    is_full = true;
+    open_pool();
+    first = CreateThreadpoolWork(run, NULL, &environment);
+    SubmitThreadpoolWork(first);
+}
+
+static void wait_for_refused_work(void)
+{
+    WaitForThreadpoolWorkCallbacks(first, FALSE);
+}
+
+/* Then there are threads; and what the library's keeper of timers does is done here. */
+static void submit_while_full(void)
+{
+    submitted = TrySubmitThreadpoolCallback(run_simple, NULL, &environment);
+    is_full = false;
+    take_latch(&pools_latch);
+    bring_all_lacking();
+    give_latch(&pools_latch);
+}
+
+static void work_alone_has_run(void)
+{
+    IS(submitted, FALSE);
+    IS(ran, 1);
+    CloseThreadpoolWork(first);
+    CloseThreadpool(pool);
+    while (!is_pool_gone)
+        doze();
+}
+
 /* ---- A registered wait that is stopped, beside a signal. */
 
 static HANDLE event, registered;
@@ -374,7 +409,7 @@ int main(void)
     try_pair("TrySubmitThreadpoolCallback", with_group, submit_to_group, close_members, group_has_run, 50);
     is_full = true;
     try_pair("TrySubmitThreadpoolCallback, without a thread", with_group, submit_to_group, close_members, group_has_run, 100);
-    is_full = false;
+    try_pair("WaitForThreadpoolWorkCallbacks, without a thread", with_refused_work, wait_for_refused_work, submit_while_full, work_alone_has_run, 50);
     try_pair("UnregisterWaitEx", with_registered, unregister, signal_once, later_signal_stays, 50);
     try_pair("SetThreadpoolWait, twice at once", with_unset_wait, set_wait, set_wait, unset_wait, 50);
     return counted_checks();
