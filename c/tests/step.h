@@ -44,8 +44,8 @@ static struct {
 } stepped;
 static _Thread_local volatile bool is_stepped;
 
-/* The places where a call comes back from what is not stepped through, in turn, from 1 on; 0 is its beginning. How many instructions were counted until
- * then is so for the next run, too: that steps from the last place before its instruction on. */
+/* The places where a call comes back from what is not stepped through, in turn, from 1 on; 0 is its beginning. How many instructions were counted
+ * until then is so for the next run, too: that steps from the last place before its instruction on. */
 static struct {
     long counts[MOST_PLACES];
     int known, first, next;
@@ -325,8 +325,8 @@ static bool step(act *call, act *other, long number)
     return stepped.left < 0;
 }
 
-/* Begins with a pair's first instruction, or goes on with the next, where the call came to the last. (Where it did not it may have gone another, shorter
- * way: that one is tried again, from the call's beginning on.) Answers whether there is one. */
+/* Begins with a pair's first instruction, or goes on with the next, where the call came to the last. (Where it did not it may have gone another,
+ * shorter way: that one is tried again, from the call's beginning on.) Answers whether there is one. */
 static bool next_step(long *number, int *missed, bool came)
 {
     *missed = came ? 0 : *missed + 1;
