@@ -253,7 +253,7 @@ static uint32_t look_wait_objects(struct nt *nt, uint32_t who, const uint32_t *h
                                   struct nt_reply *reply)
 {
     const uint32_t refused = nt_wait_objects(nt, who, handles, count, all, ms, alertable, reply);
-    note_wait(refused, who, handles, count, all, reply);
+    note_answer(refused, who, handles, count, all, reply);
     char *at = begin_call(refused, who, all ? WORD_ALL : WORD_ANY);
     if (at != NULL)
         end_call(refused, put_wait(at, ms, alertable, handles, count));
@@ -263,7 +263,7 @@ static uint32_t look_wait_objects(struct nt *nt, uint32_t who, const uint32_t *h
 static uint32_t look_wait_object(struct nt *nt, uint32_t who, uint32_t handle, uint32_t ms, bool alertable, struct nt_reply *reply)
 {
     const uint32_t refused = nt_wait_object(nt, who, handle, ms, alertable, reply);
-    note_wait(refused, who, &handle, 1, false, reply);
+    note_answer(refused, who, &handle, 1, false, reply);
     char *at = begin_call(refused, who, WORD_ANY);
     if (at != NULL)
         end_call(refused, put_wait(at, ms, alertable, &handle, 1));
@@ -273,7 +273,7 @@ static uint32_t look_wait_object(struct nt *nt, uint32_t who, uint32_t handle, u
 static uint32_t look_sleep(struct nt *nt, uint32_t who, uint32_t ms, bool alertable, struct nt_reply *reply)
 {
     const uint32_t refused = nt_sleep(nt, who, ms, alertable, reply);
-    note_wait(refused, who, NULL, 0, false, reply);
+    note_answer(refused, who, NULL, 0, false, reply);
     char *at = begin_call(refused, who, WORD_SLEEP);
     if (at != NULL)
         end_call(refused, put_wait(at, ms, alertable, NULL, 0));
@@ -284,7 +284,7 @@ static uint32_t look_swap(struct nt *nt, uint32_t who, uint32_t signal, uint32_t
 {
     const uint32_t refused = nt_swap(nt, who, signal, object, ms, alertable, reply);
     note_signal(refused, signal);
-    note_wait(refused, who, &object, 1, false, reply);
+    note_answer(refused, who, &object, 1, false, reply);
     char *at = begin_call(refused, who, WORD_SWAP " ");
     if (at != NULL) {
         at = put_number(at, signal);

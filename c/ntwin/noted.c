@@ -156,7 +156,7 @@ static void note_pending(uint32_t thread)
 }
 
 /* The caller's wait for what these handles name was refused, or answered so. */
-static void note_wait(uint32_t refused, uint32_t thread, const uint32_t *handles, size_t count, bool all, const struct nt_reply *reply)
+static void note_answer(uint32_t refused, uint32_t thread, const uint32_t *handles, size_t count, bool all, const struct nt_reply *reply)
 {
     struct nt_opened opened;
     if (noted == NULL)
@@ -170,7 +170,7 @@ static void note_wait(uint32_t refused, uint32_t thread, const uint32_t *handles
     }
     const struct range taken = taken_by(reply->number, all, (uint32_t)count);
     for (uint32_t i = taken.first; i < taken.last; i++)
-        if (nt_opened(&waiting.dispatcher, handles[i], &opened) == 0)
+        if (waiting.kinds[handles[i]] == KIND_MUTEX && nt_opened(&waiting.dispatcher, handles[i], &opened) == 0)
             note_taking(thread, opened.object, place);
 }
 
