@@ -11,21 +11,21 @@ struct asked {
     int output;
 };
 
-/* (Its signals stay blocked. The program's files are not for it. By the system's own calls, since a sanitizer in the program sees the others.) */
+/* (Its signals stay blocked. The program's files are not for it. It calls the system itself: a sanitizer in the program sees the other calls.) */
 static int run_command(void *at)
 {
     static char *const environment[] = { "LC_ALL=C", NULL };
     const struct asked *asked = at;
-    const long output = syscall(SYS_fcntl, asked->output, F_DUPFD, 3), nothing = syscall(SYS_openat, AT_FDCWD, "/dev/null", O_RDWR, 0),
-               input = syscall(SYS_fcntl, nothing, F_DUPFD, 3);
-    if (output >= 0 && input >= 0 && syscall(SYS_dup3, output, 1, 0) >= 0 && syscall(SYS_dup3, input, 0, 0) >= 0
-        && syscall(SYS_dup3, input, 2, 0) >= 0) {
+    const long output = (syscall)(SYS_fcntl, asked->output, F_DUPFD, 3), nothing = (syscall)(SYS_openat, AT_FDCWD, "/dev/null", O_RDWR, 0),
+               input = (syscall)(SYS_fcntl, nothing, F_DUPFD, 3);
+    if (output >= 0 && input >= 0 && (syscall)(SYS_dup3, output, 1, 0) >= 0 && (syscall)(SYS_dup3, input, 0, 0) >= 0
+        && (syscall)(SYS_dup3, input, 2, 0) >= 0) {
 #ifdef SYS_close_range
-        syscall(SYS_close_range, 3, ~0u, 0);
+        (syscall)(SYS_close_range, 3, ~0u, 0);
 #endif
-        syscall(SYS_execve, asked->command, asked->words, environment);
+        (syscall)(SYS_execve, asked->command, asked->words, environment);
     }
-    syscall(SYS_exit_group, 127);
+    (syscall)(SYS_exit_group, 127);
     return 127;
 }
 

@@ -169,7 +169,7 @@ static bool keep_or_go_back(struct kept *kept, bool keeps, struct rules *rules)
 }
 
 /* Carries out what a table says, up to this place. False where it says what is not known here. */
-static bool carry_out(struct bytes from, const struct function *of, uintptr_t place, struct rules *rules, const struct rules *first)
+static bool follow_rules(struct bytes from, const struct function *of, uintptr_t place, struct rules *rules, const struct rules *first)
 {
     struct kept kept = { .depth = 0 };
     bool is_known = true;
@@ -277,10 +277,10 @@ static bool go_to_caller(struct frame *frame, const struct function *function)
     static const struct rules none;
     struct rules first = none, rules;
     uintptr_t registers[REGISTERS];
-    if (!carry_out(function->common, function, UINTPTR_MAX, &first, &none))
+    if (!follow_rules(function->common, function, UINTPTR_MAX, &first, &none))
         return false;
     rules = first;
-    if (!carry_out(function->own, function, frame->place, &rules, &first) || (rules.base != AT_RSP && rules.base != AT_RBP))
+    if (!follow_rules(function->own, function, frame->place, &rules, &first) || (rules.base != AT_RSP && rules.base != AT_RBP))
         return false;
     const uintptr_t before = frame->registers[rules.base] + (uintptr_t)rules.offset;
     if (before <= frame->registers[AT_RSP] || !rules.is_saved[AT_RETURN])
