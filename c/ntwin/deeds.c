@@ -8,7 +8,8 @@ static void write_time_since(struct report *to, uint64_t when)
     if (since < MOMENTS_PER_SECOND)
         add(to, "%u ms ago", (unsigned)(since / (MOMENTS_PER_SECOND / 1000)));
     else
-        add(to, "%llu.%u s ago", (unsigned long long)(since / MOMENTS_PER_SECOND), (unsigned)(since % MOMENTS_PER_SECOND / (MOMENTS_PER_SECOND / 10)));
+        add(to, "%llu.%u s ago", (unsigned long long)(since / MOMENTS_PER_SECOND),
+            (unsigned)(since % MOMENTS_PER_SECOND / (MOMENTS_PER_SECOND / 10)));
 }
 
 /* Where and when what is noted was called. */

@@ -1,6 +1,6 @@
 /* SPDX-License-Identifier: MIT OR Apache-2.0 */
-/* ---- Names and places in a report, which is made under the lock. A place in the program stands in it as a number between two marks until the lock is
- * given back (places.c): which file that is the loader tells, which has a lock of its own. */
+/* ---- Names and places in a report, which is made under the lock. A place in the program stands in it as a number between two marks until the lock
+ * is given back (places.c): which file that is the loader tells, which has a lock of its own. */
 
 enum {
     MARK = 1,          /* of the place that comes right after a call, */
