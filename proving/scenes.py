@@ -209,12 +209,15 @@ def taken(folder):
 
 
 def told(folder):
-    """Each step that failed is told as failed, and the gate's status with it; what writes other bytes than its file fails."""
-    write(f"{folder}/tree/ntrun", "#!/bin/sh\necho one\nexit $1\n", 0o755)
+    """Each step that failed is told as failed, and the gate's status with it; what writes other bytes than stand for it fails."""
+    script, why = ["./ntrun", "script", "examples/a.nts"], ["./ntlook", "why", "examples/a.nts"]
     write(f"{folder}/tree/examples/a.nts", "threads 1\n")
-    for wrote, status, is_right in (("one\n", "0", True), ("other\n", "0", False), ("", "0", False), ("one\n", "1", False)):
-        write(f"{folder}/tree/examples/a.transcript", wrote)
-        yield (not steps.example(f"{folder}/tree", f"{folder}/tree/examples/a.nts", ["./ntrun", status], ".transcript", (0,))) == is_right
+    for wrote, status, is_right in (("one\n", 0, True), ("other\n", 0, False), ("", 0, False), ("one\n", 1, False)):
+        write(f"{folder}/tree/ntrun", f"#!/bin/sh\necho one\nexit {status}\n", 0o755)
+        yield (not steps.example(f"{folder}/tree", script, wrote)) == is_right
+    write(f"{folder}/tree/examples/a.transcript", "one\n")
+    write(f"{folder}/tree/examples/reports", f"$ {' '.join(why)}\nheld\n  $ 2\n$ {' '.join(why)}\n")
+    yield steps.runs_of(f"{folder}/tree") == [(script, "one\n"), (why, "held\n  $ 2\n"), (why, "")]
     with open(os.devnull, "w", encoding="utf-8") as nowhere, unittest.mock.patch.object(telling, "Progress", functools.partial(Progress, out=nowhere)):
         write(f"{folder}/{telling.LEAST}", "a scene: 3\n")
         for words in ["echo 3 passed, 0 failed", *NO_STEPS]:

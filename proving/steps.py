@@ -143,31 +143,27 @@ def unproved_build(top, progress):
     return Step(2 - len(failed), failed)
 
 
-# What is run on each example, and the ending of the file beside it that has what is written; then the exit statuses.
-ON_EXAMPLES = (
-    (["./ntrun", "script"], ".transcript", (0,)),
-    (["./ntlook", "why"], ".why", (0, 3, 4)),
-    (["./ntlook", "timeline"], ".timeline", (0,)),
-    (["./ntlook", "explore"], ".explore", (0, 3)),
-)
+# The exit statuses that what is run on an example may end with.
+STATUSES = {"script": (0,), "why": (0, 3, 4), "timeline": (0,), "explore": (0, 3)}
 # Pictures of the docs, each with the example that it shows.
 PICTURES = (("examples/two_locks.nts", "docs/two_locks.svg"),)
 
 
-def is_there(script, ending):
-    """Whether what is written of this example stands beside it. (Each has a transcript, and fails without one.)"""
-    return ending == ".transcript" or os.path.exists(script.removesuffix(".nts") + ending)
+def runs_of(top):
+    """What is run on the examples, and what it has to write: the transcript beside each, and what examples/reports has after the command."""
+    scripts = sorted(os.path.relpath(it, top) for it in glob.glob(f"{top}/examples/*.nts"))
+    reports = [it.split("\n", 1) for it in re.split(r"(?m)^\$ ", text_of(f"{top}/examples/reports"))[1:]]
+    transcripts = [(f"./ntrun script {it}", text_of(f"{top}/{it.removesuffix('.nts')}.transcript")) for it in scripts]
+    return [(line.split(" "), wanted) for line, wanted in (*transcripts, *reports)]
 
 
-def example(top, script, words, ending, statuses):
-    """Runs the words on an example, and answers what is told where it does not write the file beside it."""
-    wanted = text_of(script.removesuffix(".nts") + ending)
-    words = [*words, os.path.relpath(script, top)]
+def example(top, words, wanted):
+    """Runs the words on an example, and answers what is told where it does not write this."""
     how = {"stdin": subprocess.DEVNULL, "capture_output": True, "errors": "backslashreplace"}
     ran = subprocess.run(words, cwd=top, check=False, **how)
-    told = [] if ran.returncode in statuses else [f"{' '.join(words)}: exit status {ran.returncode}", *ran.stderr.splitlines()]
+    told = [] if ran.returncode in STATUSES[words[1]] else [f"{' '.join(words)}: exit status {ran.returncode}", *ran.stderr.splitlines()]
     if ran.stdout != wanted:
-        told += failures.transcript_failure(script, wanted, ran.stdout, f"what {' '.join(words)} wrote", ending)
+        told += failures.transcript_failure(f"{top}/{words[2]}", wanted, ran.stdout, f"what {' '.join(words)} wrote")
     return told
 
 
@@ -182,15 +178,14 @@ def drawn(top, script, picture):
 
 
 def examples(top, progress):
-    """What the launchers write of each example is the file beside it. Not each has a file of why its threads wait, a timeline, or orders. A picture of
-    the docs is what `ntlook timeline` draws."""
-    passed, failed = 0, []
-    runs = [(script, *how) for script in sorted(glob.glob(f"{top}/examples/*.nts")) for how in ON_EXAMPLES if is_there(script, how[1])]
+    """What the launchers write of each example is as it stands. Not of each stands why its threads wait, a timeline, or orders. A picture of the docs
+    is what `ntlook timeline` draws."""
+    passed, failed, runs = 0, [], runs_of(top)
     with ThreadPoolExecutor(processors()) as pool:
-        for (script, *_), told in zip(runs, pool.map(lambda it: example(top, *it), runs)):
+        for (words, _), told in zip(runs, pool.map(lambda it: example(top, *it), runs)):
             for it in told:
                 progress.tell(it.replace(f"{top}/", ""))
-            passed, failed = passed + (not told), failed + [os.path.relpath(script, top)] * bool(told)
+            passed, failed = passed + (not told), failed + [words[2]] * bool(told)
     for script, picture in PICTURES:
         told = drawn(top, script, picture)
         for it in told:

@@ -32,17 +32,16 @@ def difference(wanted, found, wanted_name, found_name):
     return lines if len(lines) <= 60 else [*lines[:60], f".. {len(lines) - 60} lines more"]
 
 
-def transcript_failure(script, wanted, found, found_name, ending=".transcript"):
-    """What is told where what a script gives is not the file beside it with this ending: the line of the script that answers otherwise, and a diff."""
+def transcript_failure(script, wanted, found, found_name):
+    """What is told where what a script gives is not what is wanted: the line of the script that answers otherwise, and a diff."""
     lines = [it.splitlines() for it in (wanted, found)]
     at = next((i for i, (one, other) in enumerate(zip(*lines)) if one != other), min(map(len, lines)))
     sides = [it[at] if at < len(it) else "nothing more" for it in lines]
     told = [re.match(r"(\d+): ", it) for it in sides]
     with open(script, "rb") as file:
         number = next((it[1] for it in told if it), file.read().count(b"\n") or 1)
-    beside_it = f"{beside(script).removesuffix('.nts')}{ending}"
     place = f"{beside(script)}:{number}: wanted `{sides[0]}`, found `{sides[1]}`"
-    return [place, *difference(wanted, found, beside_it, found_name)]
+    return [place, *difference(wanted, found, "wanted", found_name)]
 
 
 class Count:

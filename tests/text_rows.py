@@ -1,9 +1,9 @@
-"""Rows of tests/rows for the program itself: command lines with what it answers, and scripts with a line of the most bytes that a line may have.
+"""Rows of tests/rows for the program itself: command lines with what it answers, scripts of odd forms, and scripts with a line of the most bytes.
 
 A block `words NAME` of the file `words` has command lines, each after `$ ` as a shell reads it. The program ends with the `status`, or 0; it writes
 what stands after `> `, and says what stands after `! `. Lines after `| ` are the script that the words name.
 
-A block `lines NAME` of the file `lines` has a script after `| `, in which a line with `{FILLING}` is filled up to 4096 bytes: with FILLING as often as
+A block `form NAME` of the file `forms` has a script after `| `, and what is written and said. A block `lines NAME` of the file `lines` has a script after `| `, in which a line with `{FILLING}` is filled up to 4096 bytes: with FILLING as often as
 it has room, and gaps for the rest. With a byte more each such line is too long, and what the lines before it write is all that is written.
 """
 import re
@@ -44,8 +44,11 @@ def filled(line, most):
 
 
 def long_scripts():
-    """The scripts with lines that are filled up, and one that creates more events than there are handles: what each is, its bytes, and what is
-    written and said."""
+    """The scripts of odd forms, those with lines that are filled up, and one that creates more events than there are handles: what each is, its
+    bytes, and what is written and said."""
+    for _, name, block in blocks_of("forms"):
+        yield name, script_of(block), text_after(">", block), text_after("!", block)
+    yield "a fault in line 300", b"threads 1\n" + b"\n" * 298 + b"t0 sett e\n", "", "ntrun: line 300: unknown word\n"
     yield from long_lines()
     creations = "".join(f"t0 event e{it}\n" for it in range(1, MOST_HANDLES + 1))
     answers = "".join(f"{it + 1}: handle {it}\n" for it in range(1, MOST_HANDLES))

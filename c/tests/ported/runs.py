@@ -14,7 +14,7 @@ SECONDS_EACH = 60
 
 
 class Workshop:
-    """Compiles and runs in a room of its own, which goes with it."""
+    """Compiles and runs in a room of its own, which goes with it. The file `headers` has those that stand there below `config` and `stubs`."""
 
     def __init__(self, top, ported):
         self.top, self.ported = top, ported
@@ -22,6 +22,12 @@ class Workshop:
 
     def __enter__(self):
         self.room = tempfile.mkdtemp(prefix="ports-")
+        with open(f"{self.ported}/headers", encoding="utf-8") as file:
+            for header in re.split(r"(?m)^=== ", file.read())[1:]:
+                name, _, text = header.partition("\n")
+                os.makedirs(os.path.dirname(f"{self.room}/{name}"), exist_ok=True)
+                with open(f"{self.room}/{name}", "w", encoding="utf-8") as to:
+                    to.write(text)
         return self
 
     def __exit__(self, *_):
@@ -29,8 +35,8 @@ class Workshop:
 
     def flags(self, name, own):
         """A program's own flags, and then those of all: its own headers come first."""
-        config = [f"-I{self.room}/{name}", f"-I{self.ported}/config/{name}"]
-        return ["-D_WIN32", "-w", "-O1", *config, *own.split(), f"-I{self.top}/c/win", f"-I{self.ported}/stubs"]
+        config = [f"-I{self.room}/{name}", f"-I{self.room}/config/{name}"]
+        return ["-D_WIN32", "-w", "-O1", *config, *own.split(), f"-I{self.top}/c/win", f"-I{self.room}/stubs"]
 
     def make_files(self, name, made, source):
         os.makedirs(f"{self.room}/{name}", exist_ok=True)
@@ -206,7 +212,7 @@ BOOST_LEFT_OUT = {
 def boost(shop, source):
     """The tests of Boost.Thread, over its part for Windows. (Boost.Test, which runs some of them, is compiled for the system as it is.)"""
     includes = [f"-I{it}" for it in shop.files_of(source, "libs/*/include libs/numeric/*/include")]
-    flags = shop.flags("boost", f"-include {shop.ported}/config/boost/names.h -include iostream {BOOST}")
+    flags = shop.flags("boost", f"-include {shop.room}/config/boost/names.h -include iostream {BOOST}")
     flags += includes
     framework = shop.objects("framework", source, "libs/test/src/*.cpp", ["-w", "-O1", *includes], ("/cpp_main", "/test_main"))
     library = shop.objects("boost", source, BOOST_FILES, flags)
@@ -237,7 +243,7 @@ def winpthreads(shop, source):
     """Its tests, each a program."""
     source += "/mingw-w64-libraries/winpthreads"
     flags = shop.flags("winpthreads", "-D_WIN64 -D_M_X64 -DWINPTHREAD_STATIC -D__mode_t_defined -U__linux__ -Iinclude -Isrc -Itests_pthread")
-    flags += [f"-I{shop.ported}/config/winpthreads/src", "-include", f"{shop.ported}/config/winpthreads/names.h"]
+    flags += [f"-I{shop.room}/config/winpthreads/src", "-include", f"{shop.room}/config/winpthreads/names.h"]
     shop.make_files("winpthreads", {"renamed.h": RENAMES}, source)
     library = shop.objects("winpthreads", source, ["tests_pthread/benchlib.c", f"{shop.ported}/winpthreads.c", *shop.files_of(source, "src/*.c")], flags)
     failed = {}

@@ -1,2 +1,0 @@
-#define CONFIG_MULTITHREAD 1
-#define INLINE inline

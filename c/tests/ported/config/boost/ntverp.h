@@ -1,1 +1,0 @@
-#define VER_PRODUCTBUILD 10011

@@ -1,8 +1,0 @@
-#define CONFIG_8BPC 1
-#define CONFIG_16BPC 1
-#define HAVE_ASM 0
-#define ARCH_X86_64 1
-#define ARCH_X86 1
-#define ENDIANNESS_BIG 0
-#define HAVE_POSIX_MEMALIGN 1
-#define TRIM_DSP_FUNCTIONS 0

@@ -1,1 +1,0 @@
-#define DAV1D_VERSION "of Debian"

@@ -1,3 +1,0 @@
-#include <windows.h>
-#include <wtypes.h>
-#include <malloc.h>

@@ -1,1 +1,0 @@
-/* (Its tests name it, and it is gone.) */

@@ -1,4 +1,0 @@
-#define X264_BIT_DEPTH 8
-#define X264_CHROMA_FORMAT 0
-#define X264_GPL 1
-#define X264_INTERLACED 1

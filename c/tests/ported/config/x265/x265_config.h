@@ -1,1 +1,0 @@
-#define X265_BUILD 1
