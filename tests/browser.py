@@ -12,6 +12,34 @@ PATIENCE = 600
 CODES = {"Escape": 27, "+": 187, "j": 74, "k": 75}
 
 
+# The width and height of an image, and what its places are over white.
+READS = """(async () => {
+    const image = new Image();
+    image.src = 'data:image/png;base64,IMAGE';
+    await image.decode();
+    const context = new OffscreenCanvas(image.width, image.height).getContext('2d');
+    context.fillStyle = 'white';
+    context.fillRect(0, 0, image.width, image.height);
+    context.drawImage(image, 0, 0);
+    const all = context.getImageData(0, 0, image.width, image.height).data;
+    return [image.width, image.height, btoa(Array.from(all, (it) => String.fromCharCode(it)).join(''))];
+})()"""
+
+
+class Pixels:
+    """The red, green and blue of each place of an image, counted from the upper left."""
+
+    def __init__(self, width, height, data):
+        self.width, self.height, self.data = width, height, data
+
+    def at(self, x, y):
+        start = 4 * (y * self.width + x)
+        return tuple(self.data[start : start + 3])
+
+    def colours(self):
+        return {self.data[at : at + 3] for at in range(0, len(self.data), 4)}
+
+
 class Browser:
     def __init__(self, folder):
         self.asked = 0
@@ -90,6 +118,12 @@ class Browser:
     def screenshot(self, path):
         with open(path, "wb") as file:
             file.write(base64.b64decode(self.ask("Page.captureScreenshot", format="png")["data"]))
+
+    def pixels(self, path):
+        """The pixels of a PNG."""
+        with open(path, "rb") as file:
+            width, height, data = self.evaluate(READS.replace("IMAGE", base64.b64encode(file.read()).decode()))
+        return Pixels(width, height, base64.b64decode(data))
 
     def key(self, name):
         text = {"text": name} if len(name) == 1 else {}
