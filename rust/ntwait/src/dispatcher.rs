@@ -1,6 +1,6 @@
 // SPDX-License-Identifier: MIT OR Apache-2.0
 //! The dispatcher: each call of `c/nt.h` as a method, by Win32's name.
-use crate::raw::{call, Room};
+use crate::raw::{asked, call, Room};
 use crate::types::{Access, Apc, Grant, Handle, Moment, Object, PendingWait, Refused, Status, Thread, Timeout, Told, Wait, Why};
 use ntwait_sys as sys;
 
@@ -14,11 +14,9 @@ pub struct Dispatcher {
 
 /// Makes a call of the thread that answers a reply.
 macro_rules! ask {
-    ($self:ident, $name:ident $(, $argument:expr)*) => {{
-        let mut reply = sys::nt_reply::default();
-        let error = call!($self.room, $name $(, $argument)*; reply);
-        Refused::unless(error).map(|()| reply)
-    }};
+    ($self:ident, $name:ident $(, $argument:expr)*) => {
+        asked!($self.room, $name $(, $argument)*).map_err(Refused::of)
+    };
 }
 
 /// The value that a reader writes; None if there is none.
@@ -29,6 +27,7 @@ fn there_is<T>(error: u32, value: T) -> Answer<Option<T>> {
     }
 }
 
+#[inline]
 fn wait_of(reply: sys::nt_reply) -> Wait {
     match reply.kind {
         sys::NT_STATUS => Wait::Ended(Status::of(reply.number)),
@@ -36,6 +35,7 @@ fn wait_of(reply: sys::nt_reply) -> Wait {
     }
 }
 
+#[inline]
 fn number_of(reply: sys::nt_reply) -> Handle {
     Handle(reply.number)
 }
@@ -162,6 +162,7 @@ impl Dispatcher {
     /// assert_eq!(wait(&mut nt)?, Wait::Ended(Status::Timeout));
     /// # Ok::<(), Refused>(())
     /// ```
+    #[inline]
     pub fn create_event(&mut self, thread: Thread, manual_reset: bool, initial_state: bool) -> Answer<Handle> {
         let manual = if manual_reset { sys::NT_EVENT_MANUAL_RESET } else { 0 };
         let set = if initial_state { sys::NT_EVENT_INITIAL_SET } else { 0 };
@@ -178,6 +179,7 @@ impl Dispatcher {
     /// assert_eq!(nt.set_event(Thread(0), Handle(99)), Err(Refused::InvalidHandle));
     /// # Ok::<(), Refused>(())
     /// ```
+    #[inline]
     pub fn set_event(&mut self, thread: Thread, event: Handle) -> Answer<()> {
         ask!(self, nt_set_event, thread.0, event.0).map(drop)
     }
@@ -192,6 +194,7 @@ impl Dispatcher {
     /// assert_eq!(nt.object(event.0)?, Object::Event { manual_reset: true, is_set: false });
     /// # Ok::<(), Refused>(())
     /// ```
+    #[inline]
     pub fn reset_event(&mut self, thread: Thread, event: Handle) -> Answer<()> {
         ask!(self, nt_reset_event, thread.0, event.0).map(drop)
     }
@@ -209,6 +212,7 @@ impl Dispatcher {
     /// assert_eq!(nt.grants().map(|grant| grant.thread.0).collect::<Vec<_>>(), [1, 2]);
     /// # Ok::<(), Refused>(())
     /// ```
+    #[inline]
     pub fn pulse_event(&mut self, thread: Thread, event: Handle) -> Answer<()> {
         ask!(self, nt_pulse_event, thread.0, event.0).map(drop)
     }
@@ -222,6 +226,7 @@ impl Dispatcher {
     /// assert_eq!(nt.create_semaphore(Thread(0), 3, 2), Err(Refused::InvalidParameter));
     /// # Ok::<(), Refused>(())
     /// ```
+    #[inline]
     pub fn create_semaphore(&mut self, thread: Thread, initial: i32, maximum: i32) -> Answer<Handle> {
         ask!(self, nt_create_semaphore, thread.0, initial, maximum).map(number_of)
     }
@@ -236,6 +241,7 @@ impl Dispatcher {
     /// assert_eq!(nt.release_semaphore(Thread(0), semaphore, 1), Err(Refused::TooManyPosts));
     /// # Ok::<(), Refused>(())
     /// ```
+    #[inline]
     pub fn release_semaphore(&mut self, thread: Thread, semaphore: Handle, count: i32) -> Answer<i32> {
         ask!(self, nt_release_semaphore, thread.0, semaphore.0, count).map(|reply| reply.previous)
     }
@@ -249,6 +255,7 @@ impl Dispatcher {
     /// assert_eq!(nt.object(mutex.0)?, Object::Mutex { owner: Some(Thread(0)), depth: 1, is_abandoned: false });
     /// # Ok::<(), Refused>(())
     /// ```
+    #[inline]
     pub fn create_mutex(&mut self, thread: Thread, initial_owner: bool) -> Answer<Handle> {
         let flags = if initial_owner { sys::NT_MUTEX_INITIAL_OWNER } else { 0 };
         ask!(self, nt_create_mutex, thread.0, flags).map(number_of)
@@ -264,6 +271,7 @@ impl Dispatcher {
     /// nt.release_mutex(Thread(0), mutex)?;
     /// # Ok::<(), Refused>(())
     /// ```
+    #[inline]
     pub fn release_mutex(&mut self, thread: Thread, mutex: Handle) -> Answer<()> {
         ask!(self, nt_release_mutex, thread.0, mutex.0).map(drop)
     }
@@ -277,6 +285,7 @@ impl Dispatcher {
     /// assert_eq!(nt.object(timer.0)?, Object::Timer { manual_reset: true, is_set: false, due: None, period: 0 });
     /// # Ok::<(), Refused>(())
     /// ```
+    #[inline]
     pub fn create_timer(&mut self, thread: Thread, manual_reset: bool) -> Answer<Handle> {
         let flags = if manual_reset { sys::NT_TIMER_MANUAL_RESET } else { 0 };
         ask!(self, nt_create_timer, thread.0, flags).map(number_of)
@@ -295,6 +304,7 @@ impl Dispatcher {
     /// assert_eq!(nt.next_apc(thread)?, Some(Apc { routine: 7, argument: 9, due: Some(Moment::from_ms(2)) }));
     /// # Ok::<(), Refused>(())
     /// ```
+    #[inline]
     pub fn set_timer(&mut self, thread: Thread, timer: Handle, due: i64, period: i32, routine: Option<(u64, u64)>) -> Answer<()> {
         match routine {
             None => ask!(self, nt_set_timer, thread.0, timer.0, due, period).map(drop),
@@ -314,6 +324,7 @@ impl Dispatcher {
     /// assert_eq!(nt.due(Moment::MAX)?, None);
     /// # Ok::<(), Refused>(())
     /// ```
+    #[inline]
     pub fn cancel_timer(&mut self, thread: Thread, timer: Handle) -> Answer<()> {
         ask!(self, nt_cancel_timer, thread.0, timer.0).map(drop)
     }
@@ -328,6 +339,7 @@ impl Dispatcher {
     /// assert_eq!(nt.grants().next().unwrap().status, Status::IoCompletion);
     /// # Ok::<(), Refused>(())
     /// ```
+    #[inline]
     pub fn queue_apc(&mut self, thread: Thread, target: Handle, routine: u64, argument: u64) -> Answer<()> {
         ask!(self, nt_queue_apc, thread.0, target.0, routine, argument).map(drop)
     }
@@ -343,6 +355,7 @@ impl Dispatcher {
     /// assert_eq!(nt.next_apc(thread)?, None);
     /// # Ok::<(), Refused>(())
     /// ```
+    #[inline]
     pub fn next_apc(&mut self, thread: Thread) -> Answer<Option<Apc>> {
         let reply = ask!(self, nt_next_apc, thread.0)?;
         let due = reply.timed.then_some(Moment(reply.at));
@@ -359,6 +372,7 @@ impl Dispatcher {
     /// assert_eq!(nt.set_event(Thread(0), for_waits), Err(Refused::AccessDenied));
     /// # Ok::<(), Refused>(())
     /// ```
+    #[inline]
     pub fn duplicate_handle(&mut self, thread: Thread, handle: Handle, access: Access) -> Answer<Handle> {
         ask!(self, nt_duplicate, thread.0, handle.0, access.0).map(number_of)
     }
@@ -373,6 +387,7 @@ impl Dispatcher {
     /// assert_eq!(nt.object(event.0)?, Object::Gone);
     /// # Ok::<(), Refused>(())
     /// ```
+    #[inline]
     pub fn close_handle(&mut self, thread: Thread, handle: Handle) -> Answer<()> {
         ask!(self, nt_close_handle, thread.0, handle.0).map(drop)
     }
@@ -388,6 +403,7 @@ impl Dispatcher {
     /// assert_eq!(wait, Wait::Ended(Status::Abandoned(0)));
     /// # Ok::<(), Refused>(())
     /// ```
+    #[inline]
     pub fn exit_thread(&mut self, thread: Thread) -> Answer<()> {
         ask!(self, nt_exit, thread.0).map(drop)
     }
@@ -402,6 +418,7 @@ impl Dispatcher {
     /// assert_eq!(nt.set_event(Thread(0), Thread(1).handle()), Err(Refused::ThreadWaiting));
     /// # Ok::<(), Refused>(())
     /// ```
+    #[inline]
     pub fn wait_for_single_object(&mut self, thread: Thread, handle: Handle, timeout: Timeout, alertable: bool) -> Answer<Wait> {
         ask!(self, nt_wait_object, thread.0, handle.0, timeout.0, alertable).map(wait_of)
     }
@@ -417,6 +434,7 @@ impl Dispatcher {
     /// assert_eq!(nt.wait_for_multiple_objects(thread, &[], true, Timeout::ZERO, false), Err(Refused::InvalidParameter));
     /// # Ok::<(), Refused>(())
     /// ```
+    #[inline]
     pub fn wait_for_multiple_objects(
         &mut self,
         thread: Thread,
@@ -446,6 +464,7 @@ impl Dispatcher {
     /// assert_eq!(nt.grants().next().unwrap().status, Status::Object(0));
     /// # Ok::<(), Refused>(())
     /// ```
+    #[inline]
     pub fn sleep(&mut self, thread: Thread, timeout: Timeout, alertable: bool) -> Answer<Wait> {
         ask!(self, nt_sleep, thread.0, timeout.0, alertable).map(wait_of)
     }
@@ -460,6 +479,7 @@ impl Dispatcher {
     /// assert_eq!(nt.object(one.0)?, Object::Event { manual_reset: true, is_set: true });
     /// # Ok::<(), Refused>(())
     /// ```
+    #[inline]
     pub fn signal_object_and_wait(&mut self, thread: Thread, signal: Handle, wait: Handle, timeout: Timeout, alertable: bool) -> Answer<Wait> {
         ask!(self, nt_swap, thread.0, signal.0, wait.0, timeout.0, alertable).map(wait_of)
     }

@@ -8,6 +8,7 @@
 use ntwait_sys as sys;
 use std::alloc::{alloc, dealloc, Layout};
 use std::cell::UnsafeCell;
+use std::mem::MaybeUninit;
 
 /// Memory for a dispatcher, and the dispatcher if there is one.
 pub struct Room {
@@ -31,8 +32,24 @@ impl Room {
     }
 
     /// Makes this call of the dispatcher. It returns the error.
+    #[inline]
     pub fn call(&self, call: impl FnOnce(*mut sys::nt) -> u32) -> u32 {
         call(self.nt.get())
+    }
+
+    /// Makes a call of `c/nt.h` that answers with a reply. It returns the reply, or the error.
+    ///
+    /// # Safety
+    ///
+    /// `call` hands both pointers to one function of `c/nt.h`, and returns what that does.
+    #[inline]
+    pub unsafe fn ask(&self, call: impl FnOnce(*mut sys::nt, *mut sys::nt_reply) -> u32) -> Result<sys::nt_reply, u32> {
+        let mut reply = MaybeUninit::uninit();
+        match call(self.nt.get(), reply.as_mut_ptr()) {
+            // SAFETY: an accepted call writes each field of its reply.
+            0 => Ok(unsafe { reply.assume_init() }),
+            error => Err(error),
+        }
     }
 
     /// Opens an equal dispatcher in `to`, which has none.
@@ -69,3 +86,13 @@ macro_rules! call {
     };
 }
 pub(crate) use call;
+
+/// Makes the call of `c/nt.h` with this name and these arguments, which answers with a reply: it, or the error.
+macro_rules! asked {
+    ($room:expr, $name:ident $(, $argument:expr)*) => {
+        // SAFETY: `nt` is the room's own, the reply lives through the call, and what is returned is the call's error.
+        #[allow(unsafe_code)]
+        unsafe { $room.ask(|nt, reply| ntwait_sys::$name(nt $(, $argument)*, reply)) }
+    };
+}
+pub(crate) use asked;

@@ -67,11 +67,12 @@ impl Status {
         }
     }
 
+    #[inline]
     pub(crate) fn of(code: u32) -> Status {
         match code {
+            index if index < sys::NT_MAXIMUM_WAIT_OBJECTS => Status::Object(index),
             sys::NT_WAIT_TIMEOUT => Status::Timeout,
             sys::NT_WAIT_IO_COMPLETION => Status::IoCompletion,
-            index if index < sys::NT_MAXIMUM_WAIT_OBJECTS => Status::Object(index),
             code => Status::Abandoned(code - sys::NT_WAIT_ABANDONED_0),
         }
     }
@@ -211,7 +212,7 @@ impl Refused {
     }
 
     #[cold]
-    fn of(error: u32) -> Refused {
+    pub(crate) fn of(error: u32) -> Refused {
         let found = NUMBERS.iter().find(|(_, number)| *number == error);
         found.map_or(Refused::InvalidParameter, |(refused, _)| *refused)
     }
