@@ -97,23 +97,6 @@ static int find_file(struct dl_phdr_info *info, size_t size, void *at)
     return 1;
 }
 
-/* A place, and the file it is in. */
-struct module {
-    uintptr_t place, offset;
-    const char *name;
-};
-
-static int find_module(struct dl_phdr_info *info, size_t size, void *at)
-{
-    struct module *module = at;
-    (void)size;
-    if (!is_in(info, module->place))
-        return 0;
-    module->offset = module->place - info->dlpi_addr;
-    module->name = info->dlpi_name[0] != 0 ? info->dlpi_name : program_invocation_name;
-    return 1;
-}
-
 /* ---- Reading the file. */
 
 /* Reads so many bytes at that offset. False where the file has not so many there. */

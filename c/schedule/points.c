@@ -4,6 +4,23 @@
 /* ---- Steps, written where that was asked for: the number of the step, the time, the thread, which of its points that is, why it came there, and who
  * goes on; then where in the program it was called, and with `@` in which library, the innermost first. */
 
+/* A place, and the file it is in. */
+struct module {
+    uintptr_t place, offset;
+    const char *name;
+};
+
+static int find_module(struct dl_phdr_info *info, size_t size, void *at)
+{
+    struct module *module = at;
+    (void)size;
+    if (!is_in(info, module->place))
+        return 0;
+    module->offset = module->place - info->dlpi_addr;
+    module->name = info->dlpi_name[0] != 0 ? info->dlpi_name : program_invocation_name;
+    return 1;
+}
+
 static int put_frame(char *to, size_t room, const void *frame)
 {
     struct module module = { .place = (uintptr_t)frame - 1 };

@@ -16,6 +16,8 @@
 #undef nanosleep
 #undef clock_nanosleep
 #undef dlopen
+#undef syscall
+#undef clock_gettime
 
 /* A call that sleeps: its name, of which object, where in the program, and what else than another thread's call ends the sleep. */
 struct blocked {

@@ -35,13 +35,13 @@ static long use_system(long number, void *word, int operation, uint32_t value, u
 
 /* ---- The clock: one for all purposes, in units of 100 ns. It is moved under ntwin.c's lock. */
 
-enum { BEGINNING = 1000 }; /* in seconds */
+enum { FIRST_SECONDS = 1000 }; /* in seconds */
 
 static _Atomic uint64_t MOMENT;
 
 static int read_clock(struct timespec *at)
 {
-    at->tv_sec = (time_t)(BEGINNING + MOMENT / MOMENTS_PER_SECOND);
+    at->tv_sec = (time_t)(FIRST_SECONDS + MOMENT / MOMENTS_PER_SECOND);
     at->tv_nsec = (long)(MOMENT % MOMENTS_PER_SECOND) * NANOSECONDS_PER_MOMENT;
     return 0;
 }
