@@ -95,7 +95,7 @@ int main(void)
     CloseHandle(thread);
     WaitForSingleObject(run(reset, off), INFINITE);
     run(collect, NULL);
-    while (!is_told("collect waits for all of"))
+    while (!is_told(" waits for all of "))
         Sleep(1);
     SignalObjectAndWait(last, lock, INFINITE, FALSE);
     return 0;
