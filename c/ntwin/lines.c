@@ -1,14 +1,17 @@
 /* SPDX-License-Identifier: MIT OR Apache-2.0 */
-/* ---- Files and lines of places, as addr2line tells them, where it is in PATH as the report is written. It runs as a child that the program does not
- * see: it raises no SIGCHLD, and a wait for any child does not find it. */
+/* ---- Files and lines of places, as addr2line tells them, where it is in PATH as the report is written. It runs as a child's child, since a child that
+ * has become another program raises SIGCHLD as it ends, and is found by a wait for any child. The child between raises none, and leaves at once. (Whoever
+ * adopts what is left of processes, as the first process of a container does, adopts this one, too.) */
 
 enum { ASKED_AT_ONCE = 128, ADDRESS_LENGTH = 24, CHILD_STACK = 1 << 16, MOST_SECONDS = 5 };
 
-/* What the child needs. It shares all memory with its parent, which sleeps until it is another program. */
+/* What the two need. They share all memory with the program's thread, which sleeps until one is another program and the other is gone. */
 struct asked {
     const char *command;
     char *const *words;
     int output;
+    char *stack; /* of the child's child */
+    pid_t task;  /* its number */
 };
 
 /* (Its signals stay blocked. The program's files are not for it. It calls the system itself: a sanitizer in the program sees the other calls.) */
@@ -32,30 +35,49 @@ static int run_command(void *at)
 /* (By this name no sanitizer takes it for a fork, which it is not.) */
 extern int __clone(int (*run)(void *), void *stack, int flags, void *at, ...);
 
+/* Its signal is none, and who began it goes on once it is gone or another program. */
+static pid_t begin_beside(int (*run)(void *), char *stack, struct asked *asked)
+{
+    return __clone(run, (void *)((uintptr_t)(stack + CHILD_STACK) & ~(uintptr_t)63), CLONE_VM | CLONE_VFORK, asked);
+}
+
+static int begin_command_beside(void *at)
+{
+    struct asked *asked = at;
+    asked->task = begin_beside(run_command, asked->stack, asked);
+    (syscall)(SYS_exit_group, 0);
+    return 0;
+}
+
 /* Begins the command. Answers its number, or -1. */
 static pid_t begin_command(struct asked *asked)
 {
     sigset_t all, before;
-    char *stack = malloc(CHILD_STACK);
-    if (stack == NULL)
+    char *stacks = malloc(2 * CHILD_STACK);
+    if (stacks == NULL)
         return -1;
+    asked->stack = stacks + CHILD_STACK;
     sigfillset(&all);
     pthread_sigmask(SIG_SETMASK, &all, &before);
-    const pid_t child = __clone(run_command, (void *)((uintptr_t)(stack + CHILD_STACK) & ~(uintptr_t)63), CLONE_VM | CLONE_VFORK, asked);
+    const pid_t child = begin_beside(begin_command_beside, stacks, asked);
     pthread_sigmask(SIG_SETMASK, &before, NULL);
-    free(stack);
-    return child;
+    free(stacks);
+    while (child > 0 && waitpid(child, NULL, __WCLONE) < 0 && errno == EINTR)
+        continue;
+    return asked->task;
 }
 
-/* Reads what is written there, to its end or to this moment of the monotonic clock. */
-static size_t read_output(int input, char *to, size_t room, uint64_t end)
+/* Reads what is written there, to its end or to this moment of the monotonic clock. Answers how much that is, and in `ends` whether it came to the end. */
+static size_t read_output(int input, char *to, size_t room, uint64_t end, bool *ends)
 {
     size_t length = 0;
+    *ends = false;
     for (uint64_t now; length < room && (now = monotonic()) < end;) {
         struct pollfd it = { .fd = input, .events = POLLIN };
         const int ready = poll(&it, 1, (int)((end - now) / (MOMENTS_PER_SECOND / 1000)) + 1);
         const ssize_t count = ready > 0 ? read(input, to + length, room - length) : -1;
-        if (count == 0 || (count < 0 && ready != 0 && errno != EINTR && errno != EAGAIN))
+        *ends = count == 0;
+        if (*ends || (count < 0 && ready != 0 && errno != EINTR && errno != EAGAIN))
             break;
         length += count > 0 ? (size_t)count : 0;
     }
@@ -68,14 +90,16 @@ static void ask(const char *command, char *const *words, char *to, size_t room, 
     int ends[2];
     size_t length = 0;
     if (pipe2(ends, O_CLOEXEC) == 0) {
-        struct asked asked = { command, words, ends[1] };
-        const pid_t child = begin_command(&asked);
+        struct asked asked = { .command = command, .words = words, .output = ends[1], .task = -1 };
+        const pid_t task = begin_command(&asked);
+        bool has_ended;
         close(ends[1]);
-        if (child > 0) {
-            length = read_output(ends[0], to, room - 1, end);
-            kill(child, SIGKILL);
-            while (waitpid(child, NULL, __WCLONE) < 0 && errno == EINTR)
-                continue;
+        if (task > 0) {
+            length = read_output(ends[0], to, room - 1, end, &has_ended);
+            /* (One that has ended is gone, and its number may be another's.) */
+            if (!has_ended)
+                kill(task, SIGKILL);
+            waitpid(task, NULL, __WALL | WNOHANG); /* (where this process has adopted it) */
         }
         close(ends[0]);
     }

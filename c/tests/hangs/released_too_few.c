@@ -13,8 +13,8 @@ static DWORD WINAPI take(LPVOID unused)
 int main(void)
 {
     items = named(CreateSemaphoreA(NULL, 0, 9, NULL), "items");
-    HANDLE takers[2] = { begin(take, NULL, "one"), NULL };
     ReleaseSemaphore(items, 1, NULL);
+    HANDLE takers[2] = { begin(take, NULL, "one"), NULL };
     WaitForSingleObject(takers[0], INFINITE);
     takers[1] = begin(take, NULL, "other");
     WaitForMultipleObjects(2, takers, TRUE, INFINITE);
