@@ -1,17 +1,19 @@
--- The lock that favours a thread (c/ntwin/lock.c): a biased lock, for any number of threads and their handlers of signals. While it favours nobody it is
--- the plain lock of three words on which threads sleep by futex.
+-- The lock that favours a thread (c/ntwin/lock.c): a biased lock, for any number of threads and their handlers of signals. While it favours nobody it
+-- is the plain lock of three words on which threads sleep by futex.
 --
--- The favoured thread takes it by a plain store to its `inside` and a load of the lock. Who wants it instead revokes the favour: it changes the lock, has
--- the favoured thread pass a barrier (the asymmetric barrier, membarrier(2)), and then waits until that one's `inside` is clear.
+-- The favoured thread takes it by a plain store to its `inside` and a load of the lock. Who wants it instead revokes the favour: it changes the lock,
+-- has the favoured thread pass a barrier (the asymmetric barrier, membarrier(2)), and then waits until that one's `inside` is clear.
 --
--- A step is one atomic operation, one system call, the arrival of one plain store, or one call or return of a handler. Memory is x86's. The plain stores to
--- `inside` wait in a store buffer of one place, which their thread alone sees, and arrive at any later moment. A locked instruction, and a second plain
--- store, wait until that place is empty (so `IsDrained` is in their guards, where C has an exchange, a compare-exchange, or a store after a store). All
--- else is one order over all words: an x86 load is an acquire and a locked instruction is sequentially consistent, whatever weaker order C11 is asked for.
+-- A step is one atomic operation, one system call, the arrival of one plain store, or one call or return of a handler. Memory is x86's. The plain
+-- stores to `inside` wait in a store buffer of one place, which their thread alone sees, and arrive at any later moment. A locked instruction, and a
+-- second plain store, wait until that place is empty (so `IsDrained` is in their guards, where C has an exchange, a compare-exchange, or a store
+-- after a store). All else is one order over all words: an x86 load is an acquire and a locked instruction is sequentially consistent, whatever
+-- weaker order C11 is asked for.
 --
--- futex_wait compares the word and sleeps in one step of the kernel, futex_wake wakes one sleeper if there is one. A sleeper may also return for no reason,
--- or begin its call again once a handler has interrupted it. Of membarrier only the part of the favoured thread is a step: its buffer is empty at one
--- moment between call and return. (`pass_barriers` waits a tenth of a second where the system refuses the call: the store has arrived by then.)
+-- futex_wait compares the word and sleeps in one step of the kernel, futex_wake wakes one sleeper if there is one. A sleeper may also return for no
+-- reason, or begin its call again once a handler has interrupted it. Of membarrier only the part of the favoured thread is a step: its buffer is
+-- empty at one moment between call and return. (`pass_barriers` waits a tenth of a second where the system refuses the call: the store has arrived by
+-- then.)
 use Rattle.std.specs.Prelude.{◌≡◌, ◌≢◌, ◌⊎◌, ℕ, Bool, true, false, List, [], ◌∷◌, ◌==◌}
 use Rattle.nt_protocols.specs.Threads.{put, Step, when, Keeps}
 
@@ -51,8 +53,8 @@ pub data Place : Type 0 where
   ToUnset : Place  -- `favour`: has it, found it wanted, and is to clear its `inside`
   ToWake : Place  -- `wake_who_wants_lock`: found the lock wanted as it gave it back, and is to wake one
 
--- where a thread was that a handler of signals has interrupted, which may call: its `inside` is clear, and `takes_lock` says no. (At any other place the
--- handler's call is refused, and is no step.)
+-- where a thread was that a handler of signals has interrupted, which may call: its `inside` is clear, and `takes_lock` says no. (At any other place
+-- the handler's call is refused, and is no step.)
 pub data Frame : Type 0 where
   AtStore : Frame
   AtReload : Frame
@@ -85,7 +87,8 @@ pub record State : Type 0 where
 
 -- what can happen, each with the thread t that does it: `step` says what each is
 pub data Event : Type 0 where
-  SeesFavour StoresInside Enters MissesFavour StepsBack StepsOut KeepsFavour FindsRevoked WakesNoRevoker Asks TakesFree TriesFree : (t : ℕ) → Event
+  SeesFavour StoresInside Enters MissesFavour StepsBack StepsOut KeepsFavour FindsRevoked WakesNoRevoker : (t : ℕ) → Event
+  Asks TakesFree TriesFree : (t : ℕ) → Event
   StopsLooking MarksFree MarksHeld PaysNobody FallsAsleep FindsUnwanted Stirs Restarts StoresFirst GainsFavour MissesTaken : (t : ℕ) → Event
   UnstoresInside GivesBack WakesNobody : (t : ℕ) → Event
   WakesRevoker PaysOne WakesOne : (t : ℕ) → (u : ℕ) → Event
@@ -162,44 +165,59 @@ step s (StepsBack t) = when (IsAt s t ToStepBack × IsDrained s t) (clears s t) 
 step s (StepsOut t) = when (IsAt s t Inside × IsDrained s t) (clears s t)  -- the same exchange, to give the lock back
 step s (KeepsFavour t) = when (IsAt s t ToReload × (s.lock ≡ Favours t)) (goes s t Out)  -- loads the lock, which favours it still
 step s (FindsRevoked t) = when (IsAt s t ToReload × (s.lock ≢ Favours t)) (goes s t ToWakeRevoker)  -- loads the lock, which no longer favours it
-step s (WakesRevoker t u) = when (IsAt s t ToWakeRevoker × IsAt s u (AsleepOn t)) (wakes s t u (ToLook t false) Out)  -- `wake_who_revoked`: futex_wake on its `inside` wakes u
+step s (WakesRevoker t u) =  -- `wake_who_revoked`: futex_wake on its `inside` wakes u
+    when (IsAt s t ToWakeRevoker × IsAt s u (AsleepOn t)) (wakes s t u (ToLook t false) Out)
 step s (WakesNoRevoker t) =  -- `wake_who_revoked`: futex_wake on its `inside` finds nobody
     when (IsAt s t ToWakeRevoker × ((u : ℕ) → place_of s u ≢ AsleepOn t)) (goes s t Out)
 -- all threads: `take_in_a_step`, `wait_for_lock`, `try_lock`, `give_lock`
 step s (Asks t) = when (IsAt s t Out) (goes s t ToTake)  -- begins to take the lock
-step s (TakesFree t) = when (IsAt s t ToTake × IsDrained s t × (s.lock ≡ Free)) (makes s t Taken Owner)  -- `take_as_seen`: the compare-exchange from free is done
+step s (TakesFree t) =  -- `take_as_seen`: the compare-exchange from free is done
+    when (IsAt s t ToTake × IsDrained s t × (s.lock ≡ Free)) (makes s t Taken Owner)
 step s (TriesFree t) = when (IsAt s t Out × IsDrained s t × (s.lock ≡ Free)) (makes s t Taken Owner)  -- the same in `try_lock`
 step s (Revokes t n) =  -- `take_as_seen`: the compare-exchange from the favour of n is done
     when (IsAt s t ToTake × IsDrained s t × (s.lock ≡ Favours n)) (makes s t Taken (revoking (n == t) n false))
-step s (TriesFavoured t n) = when (IsAt s t Out × IsDrained s t × (s.lock ≡ Favours n)) (makes s t Taken (revoking (n == t) n true))  -- the same in `try_lock`
+step s (TriesFavoured t n) =  -- the same in `try_lock`
+    when (IsAt s t Out × IsDrained s t × (s.lock ≡ Favours n)) (makes s t Taken (revoking (n == t) n true))
 step s (StopsLooking t) = when (IsAt s t ToTake) (goes s t ToMark)  -- `wait_for_lock`: has looked often enough
-step s (MarksFree t) = when (IsAt s t ToMark × IsDrained s t × (s.lock ≡ Free)) (makes s t Wanted Owner)  -- `wait_for_lock`: the exchange for wanted found the lock free
+step s (MarksFree t) =  -- `wait_for_lock`: the exchange for wanted found the lock free
+    when (IsAt s t ToMark × IsDrained s t × (s.lock ≡ Free)) (makes s t Wanted Owner)
 step s (MarksFavoured t n) =  -- the exchange for wanted found that it favours n
     when (IsAt s t ToMark × IsDrained s t × (s.lock ≡ Favours n)) (makes s t Wanted (revoking (n == t) n false))
-step s (MarksHeld t) = when (IsAt s t ToMark × IsDrained s t × (is_held s.lock ≡ true)) (makes s t Wanted ToPay)  -- the exchange for wanted found it taken or wanted
-step s (PaysOne t u) = when (IsAt s t ToPay × IsAt s u (AsleepOn t)) (wakes s t u (ToLook t false) ToSleep)  -- `sleep_on_lock`: futex_wake on its own `inside` wakes u
-step s (PaysNobody t) = when (IsAt s t ToPay × ((u : ℕ) → place_of s u ≢ AsleepOn t)) (goes s t ToSleep)  -- `sleep_on_lock`: futex_wake on its own `inside` finds nobody
-step s (FallsAsleep t) = when (IsAt s t ToSleep × (s.lock ≡ Wanted)) (goes s t Asleep)  -- `sleep_on_lock`: futex_wait finds the lock wanted, and sleeps
+step s (MarksHeld t) =  -- the exchange for wanted found it taken or wanted
+    when (IsAt s t ToMark × IsDrained s t × (is_held s.lock ≡ true)) (makes s t Wanted ToPay)
+step s (PaysOne t u) =  -- `sleep_on_lock`: futex_wake on its own `inside` wakes u
+    when (IsAt s t ToPay × IsAt s u (AsleepOn t)) (wakes s t u (ToLook t false) ToSleep)
+step s (PaysNobody t) =  -- `sleep_on_lock`: futex_wake on its own `inside` finds nobody
+    when (IsAt s t ToPay × ((u : ℕ) → place_of s u ≢ AsleepOn t)) (goes s t ToSleep)
+step s (FallsAsleep t) =  -- `sleep_on_lock`: futex_wait finds the lock wanted, and sleeps
+    when (IsAt s t ToSleep × (s.lock ≡ Wanted)) (goes s t Asleep)
 step s (FindsUnwanted t) = when (IsAt s t ToSleep × (s.lock ≢ Wanted)) (goes s t ToMark)  -- futex_wait finds it not wanted
 step s (Stirs t) = when (IsAt s t Asleep) (goes s t ToMark)  -- futex_wait returns though nobody woke it
 step s (Restarts t) = when (IsAt s t Asleep) (goes s t ToSleep)  -- a signal ends its sleep, and the system begins the call again
-step s (PassesBarrier t n once) = when (IsAt s t (ToBar n once) × IsDrained s n) (goes s t (ToLook n once))  -- `pass_barriers`: n passes a barrier now
-step s (FindsOutside t n once) = when (IsAt s t (ToLook n once) × ((s.seats n).inside ≡ false)) (goes s t Owner)  -- loads n's `inside`, which is clear: t has the lock
-step s (FindsInside t n) = when (IsAt s t (ToLook n false) × ((s.seats n).inside ≡ true)) (goes s t (ToSleepOn n))  -- loads n's `inside`, which is set: t is to wait
+step s (PassesBarrier t n once) =  -- `pass_barriers`: n passes a barrier now
+    when (IsAt s t (ToBar n once) × IsDrained s n) (goes s t (ToLook n once))
+step s (FindsOutside t n once) =  -- loads n's `inside`, which is clear: t has the lock
+    when (IsAt s t (ToLook n once) × ((s.seats n).inside ≡ false)) (goes s t Owner)
+step s (FindsInside t n) =  -- loads n's `inside`, which is set: t is to wait
+    when (IsAt s t (ToLook n false) × ((s.seats n).inside ≡ true)) (goes s t (ToSleepOn n))
 step s (Declines t n) = when (IsAt s t (ToLook n true) × ((s.seats n).inside ≡ true)) (goes s t (ToPutBack n))  -- the same in `try_lock`
 step s (FallsAsleepOn t n) =  -- `wait_until_outside`: futex_wait finds n inside, and sleeps
     when (IsAt s t (ToSleepOn n) × ((s.seats n).inside ≡ true)) (goes s t (AsleepOn n))
 step s (FindsLeft t n) = when (IsAt s t (ToSleepOn n) × ((s.seats n).inside ≡ false)) (goes s t (ToLook n false))  -- futex_wait finds n outside
 step s (StirsOn t n) = when (IsAt s t (AsleepOn n)) (goes s t (ToLook n false))  -- futex_wait returns though nobody woke it
 step s (RestartsOn t n) = when (IsAt s t (AsleepOn n)) (goes s t (ToSleepOn n))  -- a signal ends its sleep, and the system begins the call again
-step s (PutsBack t n) = when (IsAt s t (ToPutBack n) × IsDrained s t) (makes s t (Favours n) (given s.lock))  -- `try_lock`: the exchange that makes the lock favour n again
+step s (PutsBack t n) =  -- `try_lock`: the exchange that makes the lock favour n again
+    when (IsAt s t (ToPutBack n) × IsDrained s t) (makes s t (Favours n) (given s.lock))
 step s (StoresFirst t) = when (IsAt s t Owner × IsDrained s t) (stores s t true ToFavour)  -- `favour`: the plain store to `inside`
-step s (GainsFavour t) = when (IsAt s t ToFavour × IsDrained s t × (s.lock ≡ Taken)) (makes s t (Favours t) Inside)  -- `favour`: the compare-exchange from taken is done
-step s (MissesTaken t) = when (IsAt s t ToFavour × IsDrained s t × (s.lock ≢ Taken)) (goes s t ToUnset)  -- `favour`: the lock is wanted, and the compare-exchange is not done
+step s (GainsFavour t) =  -- `favour`: the compare-exchange from taken is done
+    when (IsAt s t ToFavour × IsDrained s t × (s.lock ≡ Taken)) (makes s t (Favours t) Inside)
+step s (MissesTaken t) =  -- `favour`: the lock is wanted, and the compare-exchange is not done
+    when (IsAt s t ToFavour × IsDrained s t × (s.lock ≢ Taken)) (goes s t ToUnset)
 step s (UnstoresInside t) = when (IsAt s t ToUnset × IsDrained s t) (stores s t false Owner)  -- `favour`: the plain store that clears `inside`
 step s (GivesBack t) = when (IsAt s t Owner × IsDrained s t) (makes s t Free (given s.lock))  -- `let_go`: the exchange for free
 step s (WakesOne t u) = when (IsAt s t ToWake × IsAt s u Asleep) (wakes s t u ToMark Out)  -- `wake_who_wants_lock`: futex_wake on the lock wakes u
-step s (WakesNobody t) = when (IsAt s t ToWake × ((u : ℕ) → place_of s u ≢ Asleep)) (goes s t Out)  -- `wake_who_wants_lock`: futex_wake on the lock finds nobody
+step s (WakesNobody t) =  -- `wake_who_wants_lock`: futex_wake on the lock finds nobody
+    when (IsAt s t ToWake × ((u : ℕ) → place_of s u ≢ Asleep)) (goes s t Out)
 -- handlers of signals
 step s (Interrupts t f) = when (IsAt s t (frame_place f)) (frames s t Out (f ∷ (s.seats t).under))  -- a handler begins
 step s (Resumes t f fs) = when (IsAt s t Out × ((s.seats t).under ≡ f ∷ fs)) (frames s t (frame_place f) fs)  -- it ends
@@ -230,7 +248,8 @@ view (Holds stored) inside = stored
 abbrev pub InsideTells : Type 0
 InsideTells =
     Keeps step opening (λ s. (t : ℕ) →
-    (place_of s t ≡ Inside → view (s.seats t).buffer (s.seats t).inside ≡ true) × (place_of s t ≡ Owner → view (s.seats t).buffer (s.seats t).inside ≡ false))
+    (place_of s t ≡ Inside → view (s.seats t).buffer (s.seats t).inside ≡ true)
+    × (place_of s t ≡ Owner → view (s.seats t).buffer (s.seats t).inside ≡ false))
 
 -- no two threads have the lock
 abbrev pub OneOwner : Type 0
@@ -251,7 +270,8 @@ claims _ = false
 -- what carries the other laws: one thread at most claims the lock, and the lock is then taken or wanted
 abbrev pub OneClaimer : Type 0
 OneClaimer =
-    Keeps step opening (λ s. (t u : ℕ) → claims (place_of s t) ≡ true → (is_held s.lock ≡ true) × (claims (place_of s u) ≡ true → t ≡ u))
+    Keeps step opening (λ s.
+    (t u : ℕ) → claims (place_of s t) ≡ true → (is_held s.lock ≡ true) × (claims (place_of s u) ≡ true → t ≡ u))
 
 -- who is about to make the lock favour n: n, which has it, or a thread that has revoked n's favour and puts it back
 abbrev pub IsFavouring : State → ℕ → Type 0
@@ -260,7 +280,8 @@ IsFavouring s n = (place_of s n ≡ ToFavour) ⊎ ((t : ℕ) × (place_of s t �
 -- a favour is only made by who has the lock, or put back by who has revoked it
 abbrev pub FavoursAreMadeByClaimers : Type 0
 FavoursAreMadeByClaimers =
-    Keeps step opening (λ s. (e : Event) → (step s e).may → (n : ℕ) → (step s e).after.lock ≡ Favours n → (s.lock ≡ Favours n) ⊎ IsFavouring s n)
+    Keeps step opening (λ s.
+    (e : Event) → (step s e).may → (n : ℕ) → (step s e).after.lock ≡ Favours n → (s.lock ≡ Favours n) ⊎ IsFavouring s n)
 
 -- a handler has interrupted its thread where that, as it goes on, wakes who sleeps on its `inside` before it sleeps
 abbrev pub wakes_under : List Frame → Bool
@@ -287,7 +308,8 @@ will_wake p fs = false
 -- nobody sleeps on `inside` in vain: while one sleeps on n's, n is awake and is to wake it, and finds that the lock does not favour it
 abbrev pub NobodyWaitsForTheFavouredInVain : Type 0
 NobodyWaitsForTheFavouredInVain =
-    Keeps step opening (λ s. (u n : ℕ) → place_of s u ≡ AsleepOn n → (will_wake (place_of s n) (s.seats n).under ≡ true) × (s.lock ≢ Favours n))
+    Keeps step opening (λ s.
+    (u n : ℕ) → place_of s u ≡ AsleepOn n → (will_wake (place_of s n) (s.seats n).under ≡ true) × (s.lock ≢ Favours n))
 
 -- a handler has interrupted its thread where that, as it goes on, wakes one that sleeps on the lock or makes the lock wanted
 abbrev pub leads_under : List Frame → Bool
@@ -313,7 +335,8 @@ is_awake p = true
 abbrev pub ComesToWake : State → ℕ → Type 0
 ComesToWake s v = (leads (place_of s v) (s.seats v).under ≡ true) ⊎ ((s.lock ≡ Wanted) × (claims (place_of s v) ≡ true))
 
--- nobody sleeps on the lock in vain: some thread comes to a step that wakes one, and is awake, or the thread whose `inside` it sleeps on is to wake it
+-- nobody sleeps on the lock in vain: some thread comes to a step that wakes one, and is awake, or the thread whose `inside` it sleeps on is
+-- to wake it
 abbrev pub NobodySleepsInVain : Type 0
 NobodySleepsInVain =
     Keeps step opening (λ s.

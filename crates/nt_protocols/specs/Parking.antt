@@ -1,8 +1,8 @@
 -- Parking (c/win32/parking.c): any number of threads wait at an address whose value others change. Each sleeps by futex on a word of its own.
 --
--- This is one list, with the threads that wait at one of its addresses. Its latch is a lock as in specs/Lock.antt that favours nobody. `count` is a sum:
--- each thread adds one and one is taken away for it, so it is 0 exactly while nobody `is_counted`. Who changes the value loads `count` after a full
--- fence, so its store has arrived. Who waits adds itself to `count` by a locked instruction, before it looks at the value under the latch.
+-- This is one list, with the threads that wait at one of its addresses. Its latch is a lock as in specs/Lock.antt that favours nobody. `count` is a
+-- sum: each thread adds one and one is taken away for it, so it is 0 exactly while nobody `is_counted`. Who changes the value loads `count` after a
+-- full fence, so its store has arrived. Who waits adds itself to `count` by a locked instruction, before it looks at the value under the latch.
 use Rattle.std.specs.Prelude.{◌≡◌, ◌≢◌, ◌⊎◌, ℕ, ◌+◌, Bool, true, false, not, ◌&&◌, if◌then◌else◌}
 use Rattle.nt_protocols.specs.Threads.{put, Step, when, Keeps}
 
@@ -117,7 +117,8 @@ step s (Counts t x) =  -- `wait_on`: found the value as expected, and adds itsel
 step s (TakesLatch t p) = when (IsAt s t (ToTake p) × (s.latch ≡ false)) (record (goes s t p) { latch = true })  -- `take_latch`
 step s (GivesLatch t p) = when (IsAt s t (ToGive p)) (record (goes s t p) { latch = false })  -- `give_latch`
 step s (LooksSame t) = when (IsAt s t ToLook × (s.value ≡ (s.seats t).expected)) (goes s t ToPark)  -- `wait_on`: finds the value as expected again
-step s (LooksOther t) = when (IsAt s t ToLook × (s.value ≢ (s.seats t).expected)) (goes s t (ToGive Out))  -- `wait_on`: finds another value, and is counted no longer
+step s (LooksOther t) =  -- `wait_on`: finds another value, and is counted no longer
+    when (IsAt s t ToLook × (s.value ≢ (s.seats t).expected)) (goes s t (ToGive Out))
 step s (Parks t) =  -- `park`: joins the list, and its word says parked
     when (IsAt s t ToPark) (becomes s t (record (s.seats t) { place = ToGive ToSleep; parked = true; standing = Listed }))
 step s (FallsAsleep t) = when (IsAt s t ToSleep) (goes s t (dozed (s.seats t).parked))  -- `sleep_on`: futex_wait compares, and sleeps or returns
@@ -125,7 +126,8 @@ step s (Stirs t) = when (IsAt s t Asleep) (goes s t ToLoad)  -- futex_wait retur
 step s (Restarts t) = when (IsAt s t Asleep) (goes s t ToSleep)  -- a signal ends its sleep, and the system begins the call again
 step s (Reads t) = when (IsAt s t ToLoad) (becomes s t (read (s.seats t) (s.seats t).parked))  -- `is_unparked`
 step s (TimesOut t) = when (IsAt s t ToSleep) (goes s t (ToTake ToLeave))  -- its moment has come
-step s (Leaves t) = when (IsAt s t ToLeave) (becomes s t (read_again (s.seats t) (s.seats t).parked))  -- `is_unparked` under the latch, and `leave_parking` if it is not
+step s (Leaves t) =  -- `is_unparked` under the latch, and `leave_parking` if it is not
+    when (IsAt s t ToLeave) (becomes s t (read_again (s.seats t) (s.seats t).parked))
 step s (Changes t v) = when (IsAt s t Out) (record (goes s t (ToCheck true)) { value = v })  -- changes the value, and is to call WakeByAddressAll
 step s (Calls t) = when (IsAt s t Out) (goes s t (ToCheck false))  -- calls WakeByAddressSingle, or the same with nothing changed
 step s (SeesNobody t all) =  -- `wake_by_address`: loads `count`, which is 0
@@ -134,9 +136,11 @@ step s (SeesSome t all) = when (IsAt s t (ToCheck all)) (goes s t (ToTake (Unpar
 step s (TakesOff t u all) =  -- `leave_parking`: takes u off the list
     when (IsAt s t (Unparking all) × ((s.seats u).standing ≡ Listed)) (becomes s u (record (s.seats u) { standing = Taken t }))
 step s (Unparks t u) =  -- `unpark`: stores that u is unparked
-    when ((s.seats u).standing ≡ Taken t) (owing (becomes s u (record (s.seats u) { parked = false; standing = Absent; unparks = (s.seats u).unparks + 1 })) t u true)
+    when ((s.seats u).standing ≡ Taken t)
+    (owing (becomes s u (record (s.seats u) { parked = false; standing = Absent; unparks = (s.seats u).unparks + 1 })) t u true)
 step s (Finishes t all) =  -- `unpark`: takes nobody else off
-    when (IsAt s t (Unparking all) × ((u : ℕ) → ((s.seats u).standing ≢ Taken t) × (all ≡ true → (s.seats u).standing ≢ Listed))) (goes s t (ToGive Waking))
+    when (IsAt s t (Unparking all) × ((u : ℕ) → ((s.seats u).standing ≢ Taken t) × (all ≡ true → (s.seats u).standing ≢ Listed)))
+    (goes s t (ToGive Waking))
 step s (Wakes t u) = when (s.owes t u ≡ true) (owing (goes s u (woken (s.seats u).place)) t u false)  -- `wake_one` on u's word
 step s (Returns t) = when (IsAt s t Waking × ((u : ℕ) → s.owes t u ≡ false)) (goes s t Out)  -- has woken all that it unparked
 
@@ -167,7 +171,8 @@ unparks_all _ = false
 -- no change is lost: while a thread stands in the list though the value is not the expected one, some thread is to unpark all
 abbrev pub NoChangeIsLost : Type 0
 NoChangeIsLost =
-    Keeps step opening (λ s. (u : ℕ) → (s.seats u).standing ≡ Listed → s.value ≢ (s.seats u).expected → (t : ℕ) × (unparks_all (s.seats t).place ≡ true))
+    Keeps step opening (λ s.
+    (u : ℕ) → (s.seats u).standing ≡ Listed → s.value ≢ (s.seats u).expected → (t : ℕ) × (unparks_all (s.seats t).place ≡ true))
 
 -- a timeout against an unpark: who finds under the latch that its word says parked stands in the list, since nobody is taking it off
 abbrev pub WhoLeavesIsListed : Type 0

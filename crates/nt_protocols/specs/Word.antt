@@ -1,10 +1,10 @@
--- The wake token (c/ntwin/waiting.c): the word by which a thread learns that its wait was granted, and on which it sleeps by futex. Any number of threads
--- wait, tell others how their waits stand, and wake them.
+-- The wake token (c/ntwin/waiting.c): the word by which a thread learns that its wait was granted, and on which it sleeps by futex. Any number of
+-- threads wait, tell others how their waits stand, and wake them.
 --
--- Who tells does so under the lock, by an exchange, and wakes after it has given the lock back those whose word said that they sleep. What is under the lock
--- is one step here, since no two threads have the lock (specs/Lock.antt). A thread's own plain stores to its word are under the lock too. They have
--- arrived before another thread has it, since it is given back by a locked instruction. futex_wait compares and sleeps in one step of the kernel.
--- The looks of `look` change nothing, and are no steps.
+-- Who tells does so under the lock, by an exchange, and wakes after it has given the lock back those whose word said that they sleep. What is under
+-- the lock is one step here, since no two threads have the lock (specs/Lock.antt). A thread's own plain stores to its word are under the lock too.
+-- They have arrived before another thread has it, since it is given back by a locked instruction. futex_wait compares and sleeps in one step of the
+-- kernel. The looks of `look` change nothing, and are no steps.
 use Rattle.std.specs.Prelude.{◌≡◌, ◌⊎◌, ℕ, ◌+◌, Bool, true, false, not, ◌&&◌, ◌||◌, if◌then◌else◌}
 use Rattle.nt_protocols.specs.Threads.{put, Step, when, Keeps}
 
@@ -116,12 +116,14 @@ tells_one s t u a = record { seats = put s.seats u a; owes = tells s.owes t u (s
 -- each step: when it can come, and the state after it
 abbrev pub step : State → Event → Step State
 step s (Enters t) = when (IsAt s t Outside) (goes s t InCall)  -- it calls, and has the lock
-step s (Returns t) = when (IsAt s t InCall × ((u : ℕ) → s.owes t u ≡ false)) (goes s t Outside)  -- its call ends without a wait; it has woken all whom it was to wake
+step s (Returns t) =  -- its call ends without a wait; it has woken all whom it was to wake
+    when (IsAt s t InCall × ((u : ℕ) → s.owes t u ≡ false)) (goes s t Outside)
 step s (Begins t) =  -- `fall_asleep`: its wait pends from now on
     when (IsAt s t InCall) (becomes s t (record (s.seats t) { word = Awake; place = InWait; pends = true; due = false }))
 step s (TurnsToSleep t) =  -- `unlock_and_wake` has woken all whom it was to wake, and it is to sleep
     when (IsAt s t InWait × ((u : ℕ) → s.owes t u ≡ false)) (goes s t ToCompare)
-step s (Marks t) = when (IsAt s t ToCompare) (becomes s t (marked (s.seats t) (s.seats t).word))  -- `sleep_to`: the compare-exchange from awake to asleep, done or not
+step s (Marks t) =  -- `sleep_to`: the compare-exchange from awake to asleep, done or not
+    when (IsAt s t ToCompare) (becomes s t (marked (s.seats t) (s.seats t).word))
 step s (FallsAsleep t) = when (IsAt s t ToSleep) (goes s t (dozed (s.seats t).word))  -- `sleep_on`: futex_wait compares, and sleeps or returns
 step s (Stirs t) = when (IsAt s t Sleeping) (goes s t ToLoad)  -- futex_wait returns though nobody woke it: a signal, its moment, or no reason
 step s (Restarts t) = when (IsAt s t Sleeping) (goes s t ToSleep)  -- a signal ends its sleep, and the system begins the call again
@@ -129,13 +131,19 @@ step s (FindsItLate t) = when (IsAt s t ToSleep) (goes s t ToLookAtTime)  -- `sl
 step s (Reads t) = when (IsAt s t ToLoad) (becomes s t (told (s.seats t) (s.seats t).word))  -- `sleep_to`: the load at the end of the loop
 step s (LooksAtTime t) =  -- `look_at_time`: has the lock, and its word says awake unless it was granted
     when (IsAt s t ToLookAtTime) (becomes s t (looked (s.seats t) Passing))
-step s (Rearms t) = when (IsAt s t Passing) (becomes s t (looked (s.seats t) InWait))  -- `look_at_time`: time has passed; the same again, and it has a moment to sleep to
+step s (Rearms t) =  -- `look_at_time`: time has passed; the same again, and it has a moment to sleep to
+    when (IsAt s t Passing) (becomes s t (looked (s.seats t) InWait))
 step s (Grants t u) =  -- `wake_up`: t ends u's wait and tells u so
-    when ((is_waking (s.seats t).place ≡ true) × ((s.seats u).pends ≡ true)) (tells_one s t u (record (s.seats u) { word = Granted; pends = false; grants = (s.seats u).grants + 1 }))
+    when ((is_waking (s.seats t).place ≡ true) × ((s.seats u).pends ≡ true))
+    (tells_one s t u (record (s.seats u) { word = Granted; pends = false; grants = (s.seats u).grants + 1 }))
 step s (Calls t u) =  -- `call_up`: t calls u to look at the time
     when ((is_waking (s.seats t).place ≡ true) × ((s.seats u).pends ≡ true)) (tells_one s t u (record (s.seats u) { word = Called; due = true }))
 step s (Wakes t u) =  -- `wake_all`, and `tell` where its list is full: t wakes u, whom it owes that
-    when (s.owes t u ≡ true) (record { seats = put s.seats u (record (s.seats u) { place = woken (s.seats u).place }); owes = put s.owes t (put (s.owes t) u false) })
+    when (s.owes t u ≡ true)
+    (record {
+      seats = put s.seats u (record (s.seats u) { place = woken (s.seats u).place });
+      owes = put s.owes t (put (s.owes t) u false);
+    })
 
 -- nobody has called yet
 abbrev pub opening : State
@@ -153,15 +161,18 @@ IsOwed s u = (t : ℕ) × (s.owes t u ≡ true) × (is_waking (s.seats t).place 
 -- nobody sleeps in vain: while a thread sleeps, its wait pends and nobody has called it to look at the time, or a thread is to wake it
 abbrev pub NobodySleepsInVain : Type 0
 NobodySleepsInVain =
-    Keeps step opening (λ s. (u : ℕ) → (s.seats u).place ≡ Sleeping → (((s.seats u).pends ≡ true) × ((s.seats u).due ≡ false)) ⊎ IsOwed s u)
+    Keeps step opening (λ s.
+    (u : ℕ) → (s.seats u).place ≡ Sleeping → (((s.seats u).pends ≡ true) × ((s.seats u).due ≡ false)) ⊎ IsOwed s u)
 
 -- a grant is told: the word of a thread that waits says so exactly while its wait pends no more
 abbrev pub GrantsAreTold : Type 0
 GrantsAreTold =
     Keeps step opening (λ s. (u : ℕ) →
-    waits (s.seats u).place ≡ true → ((s.seats u).pends ≡ false → (s.seats u).word ≡ Granted) × ((s.seats u).word ≡ Granted → (s.seats u).pends ≡ false))
+    waits (s.seats u).place ≡ true
+    → ((s.seats u).pends ≡ false → (s.seats u).word ≡ Granted) × ((s.seats u).word ≡ Granted → (s.seats u).pends ≡ false))
 
 -- each grant is answered once: there are as many answers as grants, but for the grant of a wait that is not answered yet
 abbrev pub EachGrantOnce : Type 0
 EachGrantOnce =
-    Keeps step opening (λ s. (u : ℕ) → (s.seats u).grants ≡ (s.seats u).answers + (if waits (s.seats u).place && not (s.seats u).pends then 1 else 0))
+    Keeps step opening (λ s.
+    (u : ℕ) → (s.seats u).grants ≡ (s.seats u).answers + (if waits (s.seats u).place && not (s.seats u).pends then 1 else 0))
