@@ -1,0 +1,3 @@
+pub mod LockKinds
+pub mod LockSeats
+pub mod Runs

@@ -1,0 +1,2 @@
+pub mod LockNames
+pub mod LockTrace

@@ -1,0 +1,318 @@
+//! A run of the lock that favours a thread, one event at a time.
+
+ghost use Rattle.std.specs.Prelude.{◌≡◌, ◌≢◌, ◌<◌, ◌≤◌, ◌↔◌, ℕ, IsTrue, IsFalse, IfOk, OnOk, length, true, false};
+ghost use Rattle.nt_protocols.specs.Lock as Lock;
+ghost use Rattle.nt_protocols.specs.Threads.{put, when};
+ghost use Rattle.nt_traces.specs.LockTrace.{arrives, state_of, seat_of, place_of, lock_of, Reads, Holds};
+
+use crate::lock::{Buffer, LockWord, Place, Seat};
+use crate::lock_test::LockTest;
+
+/// The lock and its threads, as the events that were read have led to them.
+#[derive(Debug, Drop)]
+pub struct LockRun {
+    pub(crate) lock: LockWord,
+    pub(crate) seats: Vec<Seat>,
+}
+
+impl LockRun {
+    fn is_at(&self, t: usize, place: Place) -> bool
+        requires { t < length self.now.seats.items }
+        ensures { IsTrue result ↔ Lock.IsAt (state_of self.now) t (place_of place) }
+    {
+        self.seats[t].place == place
+    }
+
+    fn holds(&self, test: LockTest) -> bool
+        ensures { IsTrue result ↔ Holds (state_of self.now) test }
+    {
+        match test {
+            LockTest::Is(lock) => self.lock == lock,
+            LockTest::IsNot(lock) => self.lock != lock,
+            LockTest::IsHeld => matches!(self.lock, LockWord::Taken | LockWord::Wanted),
+        }
+    }
+
+    /// The plain stores of thread t have arrived.
+    fn is_drained(&self, t: usize) -> bool
+        requires { t < length self.now.seats.items }
+        ensures { IsTrue result ↔ Lock.IsDrained (state_of self.now) t }
+    {
+        self.seats[t].buffer == Buffer::Empty
+    }
+
+    /// No thread is at this place.
+    fn nobody_is_at(&self, place: Place) -> bool
+        requires { place_of place ≢ Lock.Place.Out }
+        ensures none { IsTrue result → (u : ℕ) → Lock.place_of (state_of self.now) u ≢ place_of place }
+        ensures some { IsFalse result → (u : ℕ) × (Lock.place_of (state_of self.now) u ≡ place_of place) }
+    {
+        for seat in &self.seats {
+            if seat.place == place {
+                return false;
+            }
+        }
+        true
+    }
+
+    /// Thread t is so from now on.
+    fn set(&mut self, t: usize, seat: Seat)
+        requires { t < length self.old.seats.items }
+        ensures seats { (state_of self.new).seats ≡ put (state_of self.old).seats t (seat_of seat) }
+        ensures lock { self.new.lock ≡ self.old.lock }
+        ensures len { length self.new.seats.items ≡ length self.old.seats.items }
+    {
+        self.seats[t] = seat;
+    }
+
+    fn goes(&mut self, t: usize, place: Place)
+        requires { t < length self.old.seats.items }
+        ensures state { state_of self.new ≡ Lock.goes (state_of self.old) t (place_of place) }
+        ensures len { length self.new.seats.items ≡ length self.old.seats.items }
+    {
+        let seat = self.seats[t];
+        self.set(t, Seat { place, ..seat });
+    }
+
+    fn makes(&mut self, t: usize, lock: LockWord, place: Place)
+        requires { t < length self.old.seats.items }
+        ensures state { state_of self.new ≡ Lock.makes (state_of self.old) t (lock_of lock) (place_of place) }
+        ensures len { length self.new.seats.items ≡ length self.old.seats.items }
+    {
+        self.lock = lock;
+        self.goes(t, place);
+    }
+
+    fn stores(&mut self, t: usize, inside: bool, place: Place)
+        requires { t < length self.old.seats.items }
+        ensures state { state_of self.new ≡ Lock.stores (state_of self.old) t inside (place_of place) }
+        ensures len { length self.new.seats.items ≡ length self.old.seats.items }
+    {
+        let seat = self.seats[t];
+        self.set(
+            t,
+            Seat {
+                place,
+                buffer: Buffer::Holds(inside),
+                ..seat
+            },
+        );
+    }
+
+    fn clears(&mut self, t: usize)
+        requires { t < length self.old.seats.items }
+        ensures state { state_of self.new ≡ Lock.clears (state_of self.old) t }
+        ensures len { length self.new.seats.items ≡ length self.old.seats.items }
+    {
+        let seat = self.seats[t];
+        self.set(
+            t,
+            Seat {
+                place: Place::ToReload,
+                inside: false,
+                ..seat
+            },
+        );
+    }
+
+    fn arrives(&mut self, t: usize, inside: bool)
+        requires { t < length self.old.seats.items }
+        ensures state { state_of self.new ≡ arrives (state_of self.old) t inside }
+        ensures len { length self.new.seats.items ≡ length self.old.seats.items }
+    {
+        let seat = self.seats[t];
+        self.set(
+            t,
+            Seat {
+                inside,
+                buffer: Buffer::Empty,
+                ..seat
+            },
+        );
+    }
+
+    fn wakes(&mut self, t: usize, u: usize, then: Place, to: Place)
+        requires t { t < length self.old.seats.items }
+        requires u { u < length self.old.seats.items }
+        ensures state { state_of self.new ≡ Lock.wakes (state_of self.old) t u (place_of then) (place_of to) }
+        ensures len { length self.new.seats.items ≡ length self.old.seats.items }
+    {
+        self.goes(u, then);
+        self.goes(t, to);
+    }
+
+    /// Where a thread is that has given the lock back.
+    fn given(&self) -> Place
+        ensures { place_of result ≡ Lock.given (state_of self.now).lock }
+    {
+        if self.lock == LockWord::Wanted {
+            Place::ToWake
+        } else {
+            Place::Out
+        }
+    }
+
+    /// From one place to another.
+    pub(crate) fn walk(&mut self, t: usize, from: Place, to: Place) -> bool
+        requires { t < length self.old.seats.items }
+        ensures { Reads self.old (when (Lock.IsAt (state_of self.old) t (place_of from)) (Lock.goes (state_of self.old) t (place_of to))) self.new result }
+    {
+        let comes = self.is_at(t, from);
+        if comes {
+            self.goes(t, to);
+        }
+        comes
+    }
+
+    /// The same where the lock is so.
+    pub(crate) fn walk_if(&mut self, t: usize, from: Place, test: LockTest, to: Place) -> bool
+        requires { t < length self.old.seats.items }
+        ensures { Reads self.old (when (Lock.IsAt (state_of self.old) t (place_of from) × Holds (state_of self.old) test) (Lock.goes (state_of self.old) t (place_of to))) self.new result }
+    {
+        let comes = self.is_at(t, from) && self.holds(test);
+        if comes {
+            self.goes(t, to);
+        }
+        comes
+    }
+
+    /// The same where the thread's plain stores have arrived, too.
+    pub(crate) fn miss(&mut self, t: usize, from: Place, test: LockTest, to: Place) -> bool
+        requires { t < length self.old.seats.items }
+        ensures { Reads self.old (when (Lock.IsAt (state_of self.old) t (place_of from) × Lock.IsDrained (state_of self.old) t × Holds (state_of self.old) test) (Lock.goes (state_of self.old) t (place_of to))) self.new result }
+    {
+        let comes = self.is_at(t, from) && self.is_drained(t) && self.holds(test);
+        if comes {
+            self.goes(t, to);
+        }
+        comes
+    }
+
+    /// Makes the lock so, which was so.
+    pub(crate) fn make(
+        &mut self,
+        t: usize,
+        from: Place,
+        test: LockTest,
+        lock: LockWord,
+        to: Place,
+    ) -> bool
+        requires { t < length self.old.seats.items }
+        ensures { Reads self.old (when (Lock.IsAt (state_of self.old) t (place_of from) × Lock.IsDrained (state_of self.old) t × Holds (state_of self.old) test) (Lock.makes (state_of self.old) t (lock_of lock) (place_of to))) self.new result }
+    {
+        let comes = self.is_at(t, from) && self.is_drained(t) && self.holds(test);
+        if comes {
+            self.makes(t, lock, to);
+        }
+        comes
+    }
+
+    /// Makes the lock so, and wakes one if it was wanted.
+    pub(crate) fn give(&mut self, t: usize, from: Place, lock: LockWord) -> bool
+        requires { t < length self.old.seats.items }
+        ensures { Reads self.old (when (Lock.IsAt (state_of self.old) t (place_of from) × Lock.IsDrained (state_of self.old) t) (Lock.makes (state_of self.old) t (lock_of lock) (Lock.given (state_of self.old).lock))) self.new result }
+    {
+        let comes = self.is_at(t, from) && self.is_drained(t);
+        if comes {
+            let to = self.given();
+            self.makes(t, lock, to);
+        }
+        comes
+    }
+
+    /// Stores to `inside` by a plain store.
+    pub(crate) fn store(&mut self, t: usize, from: Place, inside: bool, to: Place) -> bool
+        requires { t < length self.old.seats.items }
+        ensures { Reads self.old (when (Lock.IsAt (state_of self.old) t (place_of from) × Lock.IsDrained (state_of self.old) t) (Lock.stores (state_of self.old) t inside (place_of to))) self.new result }
+    {
+        let comes = self.is_at(t, from) && self.is_drained(t);
+        if comes {
+            self.stores(t, inside, to);
+        }
+        comes
+    }
+
+    /// Clears `inside` by an exchange.
+    pub(crate) fn clear(&mut self, t: usize, from: Place) -> bool
+        requires { t < length self.old.seats.items }
+        ensures { Reads self.old (when (Lock.IsAt (state_of self.old) t (place_of from) × Lock.IsDrained (state_of self.old) t) (Lock.clears (state_of self.old) t)) self.new result }
+    {
+        let comes = self.is_at(t, from) && self.is_drained(t);
+        if comes {
+            self.clears(t);
+        }
+        comes
+    }
+
+    /// Looks at the `inside` of n, which is so.
+    pub(crate) fn look(&mut self, t: usize, from: Place, n: usize, inside: bool, to: Place) -> bool
+        requires t { t < length self.old.seats.items }
+        requires n { n < length self.old.seats.items }
+        ensures { Reads self.old (when (Lock.IsAt (state_of self.old) t (place_of from) × ((((state_of self.old).seats n).inside) ≡ inside)) (Lock.goes (state_of self.old) t (place_of to))) self.new result }
+    {
+        let comes = self.is_at(t, from) && self.seats[n].inside == inside;
+        if comes {
+            self.goes(t, to);
+        }
+        comes
+    }
+
+    /// Has n pass a barrier.
+    pub(crate) fn pass(&mut self, t: usize, n: usize, once: bool) -> bool
+        requires t { t < length self.old.seats.items }
+        requires n { n < length self.old.seats.items }
+        ensures { Reads self.old (when (Lock.IsAt (state_of self.old) t (Lock.Place.ToBar n once) × Lock.IsDrained (state_of self.old) n) (Lock.goes (state_of self.old) t (Lock.Place.ToLook n once))) self.new result }
+    {
+        let comes = self.is_at(t, Place::ToBar(n, once)) && self.is_drained(n);
+        if comes {
+            self.goes(t, Place::ToLook(n, once));
+        }
+        comes
+    }
+
+    /// Wakes u.
+    pub(crate) fn wake(
+        &mut self,
+        t: usize,
+        from: Place,
+        u: usize,
+        asleep: Place,
+        then: Place,
+        to: Place,
+    ) -> bool
+        requires t { t < length self.old.seats.items }
+        requires u { u < length self.old.seats.items }
+        ensures { Reads self.old (when (Lock.IsAt (state_of self.old) t (place_of from) × Lock.IsAt (state_of self.old) u (place_of asleep)) (Lock.wakes (state_of self.old) t u (place_of then) (place_of to))) self.new result }
+    {
+        let comes = self.is_at(t, from) && self.is_at(u, asleep);
+        if comes {
+            self.wakes(t, u, then, to);
+        }
+        comes
+    }
+
+    /// Finds nobody to wake.
+    pub(crate) fn wake_nobody(&mut self, t: usize, from: Place, asleep: Place, to: Place) -> bool
+        requires t { t < length self.old.seats.items }
+        requires asleep { place_of asleep ≢ Lock.Place.Out }
+        ensures { Reads self.old (when (Lock.IsAt (state_of self.old) t (place_of from) × ((u : ℕ) → Lock.place_of (state_of self.old) u ≢ place_of asleep)) (Lock.goes (state_of self.old) t (place_of to))) self.new result }
+    {
+        let comes = self.is_at(t, from) && self.nobody_is_at(asleep);
+        if comes {
+            self.goes(t, to);
+        }
+        comes
+    }
+
+    /// The plain store arrives.
+    pub(crate) fn arrive(&mut self, t: usize, inside: bool) -> bool
+        requires { t < length self.old.seats.items }
+        ensures { Reads self.old (when (((state_of self.old).seats t).buffer ≡ Lock.Buffer.Holds inside) (arrives (state_of self.old) t inside)) self.new result }
+    {
+        let comes = self.seats[t].buffer == Buffer::Holds(inside);
+        if comes {
+            self.arrives(t, inside);
+        }
+        comes
+    }
+}
