@@ -4,7 +4,8 @@ use Rattle.nt_traces.specs.declared.lock.LockKind.{LockKind}
 use Rattle.nt_traces.specs.declared.lock_names.TheConstants.{KINDS}
 
 -- what holds of each that is listed holds of each kind
-pub of_each_kind : (P : LockKind → Type 0) (n : ℕ) → 45 ≤ n → ((k : ℕ) → k < n → P (get_or KINDS k LockKind.SeesFavour)) → (kind : LockKind) → P kind
+pub of_each_kind : (P : LockKind → Type 0) (n : ℕ) → 45 ≤ n
+    → ((k : ℕ) → k < n → P (get_or KINDS k LockKind.SeesFavour)) → (kind : LockKind) → P kind
 of_each_kind P n all holds LockKind.Asks = holds 0 (omega arith)
 of_each_kind P n all holds LockKind.GivesBack = holds 1 (omega arith)
 of_each_kind P n all holds LockKind.TakesFree = holds 2 (omega arith)

@@ -106,7 +106,8 @@ put_else : {A : Type 0} (f : ℕ → A) (t u : ℕ) (x : A) → u ≢ t → put 
 put_else {A} f t u x n = ap (λ (b : Bool). if b then x else f u) (ne_eqb u t n)
 
 -- one thread changes
-pub seats_set : (xs : List Seat) (t : ℕ) (x : Seat) → t < length xs → (λ u. seat_of (get_or (set xs t x) u outside)) ≡ put (λ u. seat_of (get_or xs u outside)) t (seat_of x)
+pub seats_set : (xs : List Seat) (t : ℕ) (x : Seat) → t < length xs
+    → (λ u. seat_of (get_or (set xs t x) u outside)) ≡ put (λ u. seat_of (get_or xs u outside)) t (seat_of x)
 seats_set xs t x h = fun_ext (λ u. elim (eqb_tells u t) [
   | inl e ↦ ap seat_of (get_or-set_at xs t u x outside e.1 h) ∙ sym (put_here (λ v. seat_of (get_or xs v outside)) t u (seat_of x) e.1)
   | inr n ↦ ap seat_of (other_kept xs t u x outside n.1) ∙ sym (put_else (λ v. seat_of (get_or xs v outside)) t u (seat_of x) n.1)
@@ -116,7 +117,8 @@ abbrev pub state : Lock.Lock → (ℕ → Lock.Seat) → Lock.State
 state l f = record { lock = l; seats = f }
 
 -- one thread changes, by what it was, and the lock stays
-pub one_changed : (old new : LockRun) (t : ℕ) (x : Seat) (f : Lock.Seat → Lock.Seat) → t < length old.seats.items → x ≡ get_or old.seats.items t x
+pub one_changed : (old new : LockRun) (t : ℕ) (x : Seat) (f : Lock.Seat → Lock.Seat)
+    → t < length old.seats.items → x ≡ get_or old.seats.items t x
     → new.lock ≡ old.lock → (state_of new).seats ≡ put (state_of old).seats t (f (seat_of x))
     → state_of new ≡ state (lock_of old.lock) (put (state_of old).seats t (f ((state_of old).seats t)))
 one_changed old new t x f h e k g =

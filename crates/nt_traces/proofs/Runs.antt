@@ -3,15 +3,18 @@ use Rattle.std.proofs.Common.{◌≡◌, ℕ, ◌+◌, ◌<◌, List, [], ◌∷
 use Rattle.std.proofs.lemmas.List.{take_more}
 use Rattle.nt_protocols.specs.Threads.{Step, Can, after_all}
 
-can_more : {S E : Type 0} (step : S → E → Step S) (s : S) (es : List E) (e : E) → Can step s es → (step (after_all step s es) e).may → Can step s (es ++ e ∷ [])
+can_more : {S E : Type 0} (step : S → E → Step S) (s : S) (es : List E) (e : E)
+    → Can step s es → (step (after_all step s es) e).may → Can step s (es ++ e ∷ [])
 can_more step s [] e c m = (m, tt)
 can_more step s (x ∷ es) e c m = (c.0, can_more step (step s x).after es e c.1 m)
 
-last_may : {S E : Type 0} (step : S → E → Step S) (s : S) (es : List E) (e : E) → Can step s (es ++ e ∷ []) → (step (after_all step s es) e).may
+last_may : {S E : Type 0} (step : S → E → Step S) (s : S) (es : List E) (e : E)
+    → Can step s (es ++ e ∷ []) → (step (after_all step s es) e).may
 last_may step s [] e c = c.0
 last_may step s (x ∷ es) e c = last_may step (step s x).after es e c.1
 
-after_more : {S E : Type 0} (step : S → E → Step S) (s : S) (es : List E) (e : E) → after_all step s (es ++ e ∷ []) ≡ (step (after_all step s es) e).after
+after_more : {S E : Type 0} (step : S → E → Step S) (s : S) (es : List E) (e : E)
+    → after_all step s (es ++ e ∷ []) ≡ (step (after_all step s es) e).after
 after_more step s [] e = refl
 after_more step s (x ∷ es) e = after_more step (step s x).after es e
 

@@ -119,7 +119,9 @@ IsFirstRefused s es place = (place < length es) × Can step s (take place es) ×
 -- whether such a step comes next: if so it has, and if not it can't, and nothing changes
 abbrev pub Reads : LockRun → Step Lock.State → LockRun → Bool → Type 0
 Reads old e new comes =
-    (IsTrue comes → e.may × (state_of new ≡ e.after)) × (IsFalse comes → (e.may → ⊥) × (new ≡ old)) × (length new.seats.items ≡ length old.seats.items)
+    (IsTrue comes → e.may × (state_of new ≡ e.after))
+    × (IsFalse comes → (e.may → ⊥) × (new ≡ old))
+    × (length new.seats.items ≡ length old.seats.items)
 
 -- a test of the lock, and what it asks
 abbrev pub Holds : Lock.State → LockTest → Type 0

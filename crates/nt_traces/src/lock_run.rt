@@ -2,7 +2,8 @@
 
 ghost use Rattle.std.specs.Prelude.{◌≡◌, ◌≢◌, ◌<◌, ◌≤◌, ◌↔◌, ℕ, IsTrue, IsFalse, IfOk, OnOk, length, true, false};
 ghost use Rattle.nt_protocols.specs.Lock as Lock;
-ghost use Rattle.nt_protocols.specs.Threads.{put, when};
+ghost use Rattle.nt_protocols.specs.Threads.{put};
+ghost use Rattle.nt_traces.specs.LockMoves as Moves;
 ghost use Rattle.nt_traces.specs.LockTrace.{arrives, state_of, seat_of, place_of, lock_of, Reads, Holds};
 
 use crate::lock::{Buffer, LockWord, Place, Seat};
@@ -155,7 +156,7 @@ impl LockRun {
     /// From one place to another.
     pub(crate) fn walk(&mut self, t: usize, from: Place, to: Place) -> bool
         requires { t < length self.old.seats.items }
-        ensures { Reads self.old (when (Lock.IsAt (state_of self.old) t (place_of from)) (Lock.goes (state_of self.old) t (place_of to))) self.new result }
+        ensures { Reads self.old (Moves.walk (state_of self.old) t from to) self.new result }
     {
         let comes = self.is_at(t, from);
         if comes {
@@ -167,7 +168,7 @@ impl LockRun {
     /// The same where the lock is so.
     pub(crate) fn walk_if(&mut self, t: usize, from: Place, test: LockTest, to: Place) -> bool
         requires { t < length self.old.seats.items }
-        ensures { Reads self.old (when (Lock.IsAt (state_of self.old) t (place_of from) × Holds (state_of self.old) test) (Lock.goes (state_of self.old) t (place_of to))) self.new result }
+        ensures { Reads self.old (Moves.walk_if (state_of self.old) t from test to) self.new result }
     {
         let comes = self.is_at(t, from) && self.holds(test);
         if comes {
@@ -179,7 +180,7 @@ impl LockRun {
     /// The same where the thread's plain stores have arrived, too.
     pub(crate) fn miss(&mut self, t: usize, from: Place, test: LockTest, to: Place) -> bool
         requires { t < length self.old.seats.items }
-        ensures { Reads self.old (when (Lock.IsAt (state_of self.old) t (place_of from) × Lock.IsDrained (state_of self.old) t × Holds (state_of self.old) test) (Lock.goes (state_of self.old) t (place_of to))) self.new result }
+        ensures { Reads self.old (Moves.miss (state_of self.old) t from test to) self.new result }
     {
         let comes = self.is_at(t, from) && self.is_drained(t) && self.holds(test);
         if comes {
@@ -198,7 +199,7 @@ impl LockRun {
         to: Place,
     ) -> bool
         requires { t < length self.old.seats.items }
-        ensures { Reads self.old (when (Lock.IsAt (state_of self.old) t (place_of from) × Lock.IsDrained (state_of self.old) t × Holds (state_of self.old) test) (Lock.makes (state_of self.old) t (lock_of lock) (place_of to))) self.new result }
+        ensures { Reads self.old (Moves.make (state_of self.old) t from test lock to) self.new result }
     {
         let comes = self.is_at(t, from) && self.is_drained(t) && self.holds(test);
         if comes {
@@ -210,7 +211,7 @@ impl LockRun {
     /// Makes the lock so, and wakes one if it was wanted.
     pub(crate) fn give(&mut self, t: usize, from: Place, lock: LockWord) -> bool
         requires { t < length self.old.seats.items }
-        ensures { Reads self.old (when (Lock.IsAt (state_of self.old) t (place_of from) × Lock.IsDrained (state_of self.old) t) (Lock.makes (state_of self.old) t (lock_of lock) (Lock.given (state_of self.old).lock))) self.new result }
+        ensures { Reads self.old (Moves.give (state_of self.old) t from lock) self.new result }
     {
         let comes = self.is_at(t, from) && self.is_drained(t);
         if comes {
@@ -223,7 +224,7 @@ impl LockRun {
     /// Stores to `inside` by a plain store.
     pub(crate) fn store(&mut self, t: usize, from: Place, inside: bool, to: Place) -> bool
         requires { t < length self.old.seats.items }
-        ensures { Reads self.old (when (Lock.IsAt (state_of self.old) t (place_of from) × Lock.IsDrained (state_of self.old) t) (Lock.stores (state_of self.old) t inside (place_of to))) self.new result }
+        ensures { Reads self.old (Moves.store (state_of self.old) t from inside to) self.new result }
     {
         let comes = self.is_at(t, from) && self.is_drained(t);
         if comes {
@@ -235,7 +236,7 @@ impl LockRun {
     /// Clears `inside` by an exchange.
     pub(crate) fn clear(&mut self, t: usize, from: Place) -> bool
         requires { t < length self.old.seats.items }
-        ensures { Reads self.old (when (Lock.IsAt (state_of self.old) t (place_of from) × Lock.IsDrained (state_of self.old) t) (Lock.clears (state_of self.old) t)) self.new result }
+        ensures { Reads self.old (Moves.clear (state_of self.old) t from) self.new result }
     {
         let comes = self.is_at(t, from) && self.is_drained(t);
         if comes {
@@ -248,7 +249,7 @@ impl LockRun {
     pub(crate) fn look(&mut self, t: usize, from: Place, n: usize, inside: bool, to: Place) -> bool
         requires t { t < length self.old.seats.items }
         requires n { n < length self.old.seats.items }
-        ensures { Reads self.old (when (Lock.IsAt (state_of self.old) t (place_of from) × ((((state_of self.old).seats n).inside) ≡ inside)) (Lock.goes (state_of self.old) t (place_of to))) self.new result }
+        ensures { Reads self.old (Moves.look (state_of self.old) t from n inside to) self.new result }
     {
         let comes = self.is_at(t, from) && self.seats[n].inside == inside;
         if comes {
@@ -261,7 +262,7 @@ impl LockRun {
     pub(crate) fn pass(&mut self, t: usize, n: usize, once: bool) -> bool
         requires t { t < length self.old.seats.items }
         requires n { n < length self.old.seats.items }
-        ensures { Reads self.old (when (Lock.IsAt (state_of self.old) t (Lock.Place.ToBar n once) × Lock.IsDrained (state_of self.old) n) (Lock.goes (state_of self.old) t (Lock.Place.ToLook n once))) self.new result }
+        ensures { Reads self.old (Moves.pass (state_of self.old) t n once) self.new result }
     {
         let comes = self.is_at(t, Place::ToBar(n, once)) && self.is_drained(n);
         if comes {
@@ -282,7 +283,7 @@ impl LockRun {
     ) -> bool
         requires t { t < length self.old.seats.items }
         requires u { u < length self.old.seats.items }
-        ensures { Reads self.old (when (Lock.IsAt (state_of self.old) t (place_of from) × Lock.IsAt (state_of self.old) u (place_of asleep)) (Lock.wakes (state_of self.old) t u (place_of then) (place_of to))) self.new result }
+        ensures { Reads self.old (Moves.wake (state_of self.old) t from u asleep then to) self.new result }
     {
         let comes = self.is_at(t, from) && self.is_at(u, asleep);
         if comes {
@@ -295,7 +296,7 @@ impl LockRun {
     pub(crate) fn wake_nobody(&mut self, t: usize, from: Place, asleep: Place, to: Place) -> bool
         requires t { t < length self.old.seats.items }
         requires asleep { place_of asleep ≢ Lock.Place.Out }
-        ensures { Reads self.old (when (Lock.IsAt (state_of self.old) t (place_of from) × ((u : ℕ) → Lock.place_of (state_of self.old) u ≢ place_of asleep)) (Lock.goes (state_of self.old) t (place_of to))) self.new result }
+        ensures { Reads self.old (Moves.wake_nobody (state_of self.old) t from asleep to) self.new result }
     {
         let comes = self.is_at(t, from) && self.nobody_is_at(asleep);
         if comes {
@@ -307,7 +308,7 @@ impl LockRun {
     /// The plain store arrives.
     pub(crate) fn arrive(&mut self, t: usize, inside: bool) -> bool
         requires { t < length self.old.seats.items }
-        ensures { Reads self.old (when (((state_of self.old).seats t).buffer ≡ Lock.Buffer.Holds inside) (arrives (state_of self.old) t inside)) self.new result }
+        ensures { Reads self.old (Moves.arrive (state_of self.old) t inside) self.new result }
     {
         let comes = self.seats[t].buffer == Buffer::Holds(inside);
         if comes {

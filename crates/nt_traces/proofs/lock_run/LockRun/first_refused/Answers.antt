@@ -11,13 +11,19 @@ any = record { kind = LockKind.SeesFavour; thread = 0; other = 0 }
 
 pub returns-then-not-step-clause-refused : goal.returns-then-not-step-clause-refused
 returns-then-not-step-clause-refused c =
-    let refused = (c.step.ensures.1 c.if-not-step.true).0 in
-    (c.loop-place-test.true, c.loop-place.invariant.led.can, led_no_more step (state_of c.args.self.now) (state_of c.loop-place.self) c.args.events.now c.loop-place.place any c.loop-place-test.true c.loop-place.invariant.led refused)
+    let refused = (c.step.ensures.1 c.if-not-step.true).0 in (
+      c.loop-place-test.true,
+      c.loop-place.invariant.led.can,
+      led_no_more step (state_of c.args.self.now) (state_of c.loop-place.self) c.args.events.now c.loop-place.place any c.loop-place-test.true
+          c.loop-place.invariant.led refused,
+    )
 
 pub loop-place-preserved : goal.loop-place-preserved
 loop-place-preserved c =
     let came = c.step.ensures.0 c.if-not-step.false in
     record {
-      led = led_more step (state_of c.args.self.now) (state_of c.loop-place.self) (state_of c.step.new.self) c.args.events.now c.loop-place.place any c.loop-place-test.true c.loop-place.invariant.led came.0 came.1;
+      led =
+          led_more step (state_of c.args.self.now) (state_of c.loop-place.self) (state_of c.step.new.self) c.args.events.now c.loop-place.place any
+          c.loop-place-test.true c.loop-place.invariant.led came.0 came.1;
       same = c.step.ensures.2 ∙ c.loop-place.invariant.same;
     }
