@@ -28,10 +28,10 @@ MakesTimeline None errors errors' status = PrintTimeline errors errors' status
 MakesTimeline (Some drawing) errors errors' status = DrawingEnds errors errors' status
 
 -- It is said that memory ran out; or it was told of the orders of a file, to some writer.
-abbrev pub PrintOrders : (errors errors' : Writing) → (status : ℕ) → Type 0
-PrintOrders errors errors' status =
+abbrev pub PrintOrders : (most : ℕ) → (errors errors' : Writing) → (status : ℕ) → Type 0
+PrintOrders most errors errors' status =
     SaysMemory errors errors' status
-    ⊎ ((writer writer' : Writing) × OrdersTold writer writer' errors errors' status)
+    ⊎ ((writer writer' : Writing) × OrdersTold most writer writer' errors errors' status)
 
 -- the usage of this command, or of all
 abbrev pub usage_for : Option Command → List ℕ
@@ -43,4 +43,4 @@ abbrev pub CommandEnds : Result LookAsked (Option Command) → (errors errors' :
 CommandEnds (Err command) errors errors' status = Says errors errors' (usage_for command) × (status ≡ 2)
 CommandEnds (Ok (AskedWhy file at)) errors errors' status = PrintTold file at errors errors' status
 CommandEnds (Ok (AskedTimeline file lines object thread drawing)) errors errors' status = MakesTimeline drawing errors errors' status
-CommandEnds (Ok (AskedExplore file most)) errors errors' status = PrintOrders errors errors' status
+CommandEnds (Ok (AskedExplore file most)) errors errors' status = PrintOrders most errors errors' status

@@ -56,7 +56,7 @@ fn print_orders<R: Files + AllocGlobal + Print, E: Sink>(
     most: u64,
     errors: &mut E,
 ) -> u8
-    ensures { PrintOrders (E.seen errors.old) (E.seen errors.new) result }
+    ensures { PrintOrders most (E.seen errors.old) (E.seen errors.new) result }
 {
     match BufWriter::new(rt.alloc(), io::writer(rt)) {
         Ok(writer) => explore_file(rt, path, most as usize, &mut Counted::new(writer), errors),

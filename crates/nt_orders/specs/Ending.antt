@@ -4,7 +4,8 @@ use Rattle.std.specs.Io.KnownBytes.{Keeps}
 use Rattle.nt_devices.specs.Device.{Reading, Says, Writing, one_more}
 use Rattle.nt_calls.specs.State.{State}
 use Rattle.nt_look.specs.Orders.{Plan}
-use Rattle.nt_explore.specs.Search.{TellsVerdict, beginning}
+use Rattle.nt_explore.specs.Search.{TellsSearch, TellsVerdict, beginning}
+use Rattle.nt_explore.specs.declared.explored.Explored.{Explored}
 use Rattle.nt_explore.specs.declared.explored.Verdict.{Verdict}
 use Rattle.nt_explore.specs.declared.explored.Verdict.TheVariants as verdict
 use Rattle.nt_script.specs.Running.{Has}
@@ -24,9 +25,12 @@ verdict_code (verdict.Hangs lanes loss) = 3
 verdict_code verdict.None = 0
 verdict_code (verdict.Met level) = 4
 
--- The exit status is that of a verdict on all orders of the plan from this state.
-abbrev pub PlanIsJudged : Plan → State → ℕ → Type 0
-PlanIsJudged plan s code = (found : Verdict) × TellsVerdict plan (beginning plan s) found × (code ≡ verdict_code found)
+-- The exit status is that of the verdict on all orders of the plan from this state to which a search came, with so many states at the most: 4 is the status
+-- only where it met more.
+abbrev pub PlanIsJudged : (most : ℕ) → Plan → State → ℕ → Type 0
+PlanIsJudged most plan s code =
+    (told : Explored) × TellsVerdict plan (beginning plan s) told.verdict × (code ≡ verdict_code told.verdict)
+    × (met : ℕ → ℕ) × (looked : ℕ) × TellsSearch plan (beginning plan s) most met looked told
 
 -- This is the script's first fault: in its head; that it has no `threads` line; or in a lane. Or memory was refused.
 abbrev pub IsFirstFault : List ℕ → OrdersFault → Type 0
@@ -40,9 +44,9 @@ IsFirstFault input (orders.NoThread line) = StopsAfterHead input (orders.NoThrea
 IsFirstFault input orders.Memory = Unit {0}
 
 -- What an exploration comes to: a report on the plan of the script; or the script has this first fault, or memory was refused.
-abbrev pub IsOrdersOutcome : List ℕ → Result Report OrdersFault → Type 0
-IsOrdersOutcome input (Ok report) = (plan : Plan) × (s : State) × IsPlanOf input plan s × PlanIsJudged plan s report.code
-IsOrdersOutcome input (Err fault) = IsFirstFault input fault
+abbrev pub IsOrdersOutcome : (most : ℕ) → List ℕ → Result Report OrdersFault → Type 0
+IsOrdersOutcome most input (Ok report) = (plan : Plan) × (s : State) × IsPlanOf input plan s × PlanIsJudged most plan s report.code
+IsOrdersOutcome most input (Err fault) = IsFirstFault input fault
 
 -- It is said why the orders are not explored, or that memory ran out for that too.
 abbrev pub TellsOrdersFault : OrdersFault → (errors errors' : Writing) → (status : ℕ) → Type 0
@@ -56,21 +60,21 @@ TellsOutcome (Err fault) writer writer' errors errors' status =
     Keeps writer.held writer'.held × (writer'.failed ≡ writer.failed) × TellsOrdersFault fault errors errors' status
 
 -- What is told of a script with these bytes.
-pub record TellsOrders (input : List ℕ) (writer writer' errors errors' : Writing) (status : ℕ) : Type 0 where
+pub record TellsOrders (most : ℕ) (input : List ℕ) (writer writer' errors errors' : Writing) (status : ℕ) : Type 0 where
   pub outcome : Result Report OrdersFault
-  pub is : IsOrdersOutcome (before_zero input) outcome
+  pub is : IsOrdersOutcome most (before_zero input) outcome
   pub tells : TellsOutcome outcome writer writer' errors errors' status
 
 -- All was read, and told of; or nothing was written, and it is said that the read failed or memory ran out.
-pub record OrdersEnd (reader reader' : Reading) (writer writer' errors errors' : Writing) (status : ℕ) : Type 0 where
+pub record OrdersEnd (most : ℕ) (reader reader' : Reading) (writer writer' errors errors' : Writing) (status : ℕ) : Type 0 where
   pub either :
-      ((input : List ℕ) × Has reader.left input × (reader'.failed ≡ reader.failed) × TellsOrders input writer writer' errors errors' status)
+      ((input : List ℕ) × Has reader.left input × (reader'.failed ≡ reader.failed) × TellsOrders most input writer writer' errors errors' status)
       ⊎ (Keeps writer.held writer'.held × (writer'.failed ≡ writer.failed)
       × (((reader'.failed ≡ one_more reader.failed) × Says errors errors' (codes "ntlook: read failed\n") × (status ≡ 1))
       ⊎ ((reader'.failed ≡ reader.failed) × SaysMemory errors errors' status)))
 
 -- It is said that the file can't be opened, and nothing was written; or the script in it was told of.
-pub record OrdersTold (writer writer' errors errors' : Writing) (status : ℕ) : Type 0 where
+pub record OrdersTold (most : ℕ) (writer writer' errors errors' : Writing) (status : ℕ) : Type 0 where
   pub either :
       (Says errors errors' (codes "ntlook: cannot open\n") × (status ≡ 1) × Keeps writer.held writer'.held × (writer'.failed ≡ writer.failed))
-      ⊎ ((reader reader' : Reading) × OrdersEnd reader reader' writer writer' errors errors' status)
+      ⊎ ((reader reader' : Reading) × OrdersEnd most reader reader' writer writer' errors errors' status)

@@ -28,7 +28,7 @@ fn explore_input<W: Sink, E: Sink>(
     writer: &mut W,
     errors: &mut E,
 ) -> u8
-    ensures { TellsOrders input.now (W.seen writer.old) (W.seen writer.new) (E.seen errors.old) (E.seen errors.new) result }
+    ensures { TellsOrders most input.now (W.seen writer.old) (W.seen writer.new) (E.seen errors.old) (E.seen errors.new) result }
 {
     match report_on(alloc, file, input, most) {
         Ok(report) => show(&report, writer, errors),
@@ -49,7 +49,7 @@ pub fn explore_over<R: Source, W: Sink, E: Sink>(
     writer: &mut W,
     errors: &mut E,
 ) -> u8
-    ensures { OrdersEnd (R.seen reader.old) (R.seen reader.new)
+    ensures { OrdersEnd most (R.seen reader.old) (R.seen reader.new)
         (W.seen writer.old) (W.seen writer.new) (E.seen errors.old) (E.seen errors.new) result }
 {
     match read_whole(alloc, reader) {
@@ -67,7 +67,7 @@ pub fn explore_file<F: Files + AllocGlobal, W: Sink, E: Sink>(
     writer: &mut W,
     errors: &mut E,
 ) -> u8
-    ensures { OrdersTold (W.seen writer.old) (W.seen writer.new) (E.seen errors.old) (E.seen errors.new) result }
+    ensures { OrdersTold most (W.seen writer.old) (W.seen writer.new) (E.seen errors.old) (E.seen errors.new) result }
 {
     match fs::open(files, path) {
         Ok(file) => explore_over(

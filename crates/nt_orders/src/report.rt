@@ -191,7 +191,7 @@ impl Script {
         told: &[u8],
         most: usize,
     ) -> Result<Report, AllocError>
-        ensures { IfOk result (λ report. PlanIsJudged self.old.plan (state self.old.session.core) report.code) }
+        ensures { IfOk result (λ report. PlanIsJudged most self.old.plan (state self.old.session.core) report.code) }
     {
         let explored = explore(alloc, self.session.core(), &self.plan, most, &mut Nobody)?;
         self.report(alloc, file, told, &explored)
@@ -206,7 +206,7 @@ pub fn report_on(
     input: &[u8],
     most: usize,
 ) -> Result<Report, OrdersFault>
-    ensures { IsOrdersOutcome (before_zero input.now) result }
+    ensures { IsOrdersOutcome most (before_zero input.now) result }
 {
     let lines = before_zero(input);
     let mut script = read_script(alloc, lines)?;
