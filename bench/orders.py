@@ -211,7 +211,7 @@ class Found:
         counts = f"{name}: {counted(states, 'state')}, {counted(steps, 'step')}, "
         if hang is None:
             return counts + "none hangs\n"
-        told = f"{counts}{many} hang{'s' * (many == 1)}; the shortest order, {counted(hang, 'line')}:\n"
+        told = f"{counts}{counted(many, 'state')} hang{'s' * (many == 1)}; the shortest order, {counted(hang, 'line')}:\n"
         told += self.rows(self.hanging[0], 2) + self.hang_text() + self.waiters_text()
         if loss is None:
             return told

@@ -43,7 +43,7 @@ fn put_counts(out: &mut Vec<u8>, file: &[u8], explored: &Explored) -> Result<(),
 
 /// Puts how many states hang, and that others were not looked at.
 fn put_hangs(out: &mut Vec<u8>, hangs: usize, all: bool) -> Result<(), AllocError> {
-    put_number(out, hangs as u64)?;
+    put_many(out, hangs, b" state")?;
     out.extend_from_slice(if hangs == 1 { b" hangs" } else { b" hang" })?;
     out.extend_from_slice(if all { b"" } else { b", and the bound was met" })
 }
