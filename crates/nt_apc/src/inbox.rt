@@ -141,6 +141,13 @@ impl Inbox {
         self.queue.pop_front()
     }
 
+    /// The APC at this place, the oldest at 0; none past the last.
+    pub fn at(&self, place: usize) -> Option<Queued>
+        ensures { result ≡ slice_get self.now.queue place }
+    {
+        self.queue.get(place).copied()
+    }
+
     /// Removes all APCs, and gives up all places.
     pub fn clear(&mut self)
         ensures queue { self.new.queue ≡ [] }

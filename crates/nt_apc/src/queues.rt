@@ -1,7 +1,7 @@
-ghost use Rattle.std.specs.Prelude.{◌≡◌, ◌≢◌, ◌<◌, if◌then◌else◌, ◌↔◌, ℕ, true, not, false, length, replicate, [], Some, None, OnOk, OnErr, IfOk, AllPairs, Contains};
+ghost use Rattle.std.specs.Prelude.{◌≡◌, ◌≢◌, ◌<◌, if◌then◌else◌, ◌↔◌, ℕ, true, not, false, length, replicate, [], Some, None, OnOk, OnErr, IfOk, AllPairs, Contains, slice_get};
 ghost use Rattle.nt_apc.specs.Queues.{Apcs, KeepsPlaces, apc_queue_of, has_apc, has_from, is_queued, oldest, apc_of, pushed, oldest_taken, cleared, withdrawn, withdrawn_at, place_of, is_at, given_up};
 
-use crate::apc::Apc;
+use crate::apc::{Apc, Queued};
 use crate::inbox::Inbox;
 use crate::linked;
 use crate::place::{self, Place};
@@ -155,6 +155,14 @@ impl ApcQueues {
         ensures { result ≡ not (has_apc self.now.queues t) }
     {
         self.inboxes[t.get() as usize].is_empty()
+    }
+
+    /// The APC at this place of `t`'s queue, the oldest at 0; none past the last.
+    pub fn at(&self, t: ThreadId, place: usize) -> Option<Queued>
+        requires { t < length self.now.queues }
+        ensures { result ≡ slice_get (apc_queue_of self.now.queues t) place }
+    {
+        self.inboxes[t.get() as usize].at(place)
     }
 
     /// The thread in whose queue the timer's APC has a place.

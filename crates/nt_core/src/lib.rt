@@ -21,6 +21,7 @@
 // What a caller sees.
 mod dispatcher;
 mod like;
+mod queues;
 mod readers;
 // The parts, and the way of a call through them.
 mod calls;

@@ -6,3 +6,4 @@ pub mod Levels
 pub mod Counting
 pub mod Hung
 pub mod Adding
+pub mod Queues

@@ -1,8 +1,9 @@
 //! One lane goes.
-ghost use Rattle.std.specs.Prelude.{◌≡◌, ◌≢◌, ◌<◌, length, Err, MatchBool, IfOk, OnOk};
+ghost use Rattle.std.specs.Prelude.{◌≡◌, ◌≢◌, ◌<◌, length, Err, MatchBool, IfOk, OnOk, not, ◌&&◌, is_some, slice_get, slice_index_or};
 ghost use Rattle.nt_status.specs.declared.refusal.Refusal.TheVariants.{Memory};
 ghost use Rattle.nt_core.specs.Dispatcher.{state};
-ghost use Rattle.nt_look.specs.Orders.{Calls, Passes, IsAskMade};
+ghost use Rattle.nt_calls.specs.State.{pends};
+ghost use Rattle.nt_look.specs.Orders.{Calls, Passes, IsAskMade, asks};
 ghost use Rattle.nt_explore.specs.Search.{asked};
 ghost use Rattle.nt_explore.specs.Walk.{point_of, GoesOn, Went};
 
@@ -52,6 +53,17 @@ fn make(core: &mut Core, thread: u32, ask: &Ask) -> Result<(), AllocError>
             Ok(())
         }
     }
+}
+
+/// Whether the lane can go: its thread does not wait, and something is left for it.
+pub fn can_go(plan: &Plan, place: &Place, lane: u32) -> bool
+    requires wide { length place.now.places.items ≡ length plan.now }
+    requires there { lane < length plan.now }
+    ensures { result ≡ not (pends (state place.now.core) lane)
+        && is_some (slice_get (asks plan.now lane) (slice_index_or place.now.places.items lane 0)) }
+{
+    let at = place.places[lane as usize];
+    !place.core.is_waiting(lane) && plan.ask(lane, at).is_some()
 }
 
 /// Lets the lane go, and tells whether it went: not where its thread waits, or nothing is left for it.

@@ -7,7 +7,7 @@ ghost use Rattle.nt_explore.specs.Walk.{point_of, AreBehind, LeadsTo, TriesAt, T
 ghost use Rattle.nt_explore.specs.Levels.{LiesAt, LooksOn, OfSearch, first_then, one_more_if};
 
 use crate::explored::{Explored, Loss, Verdict};
-use crate::going::go;
+use crate::going::{can_go, go};
 use crate::hanging::hangs;
 use crate::loss::{Edge, Edges, first_loss, lead, no_edges, note_waits};
 use crate::met::{Entry, Met, again, way_to};
@@ -44,6 +44,9 @@ fn next_of(
     requires known { lane < length plan.now }
     ensures { IfOk result (λ next. LeadsTo plan.now (point_of place.now) lane (option_map point_of next)) }
 {
+    if !can_go(plan, place, lane) {
+        return Ok(None);
+    }
     let mut next = copy_of(alloc, place)?;
     if go(plan, &mut next, lane)? {
         Ok(Some(next))
