@@ -6,6 +6,8 @@ TEXTS, FILES, RUNS = rows_of("ntrun")
 SAMPLE, TRANSCRIPT = FILES["sample.nts"], TEXTS["TRANSCRIPT"]
 # Files of bytes that no text says well.
 FILES |= {"crlf.nts": SAMPLE.replace(b"\n", b"\r\n"), "no_last_lf.nts": SAMPLE[:-1], "-dash.nts": SAMPLE, "two words.nts": SAMPLE}
+FILES |= {"utf16.nts": b"\xff\xfe" + SAMPLE.decode().encode("utf-16-le"), "utf16_bare.nts": SAMPLE.decode().encode("utf-16-le")}
+FILES |= {"utf16_be.nts": b"\xfe\xff" + SAMPLE.decode().encode("utf-16-be")}
 FILES |= {"bom.nts": b"\xef\xbb\xbf" + SAMPLE, "every_byte": bytes(range(256)) * 9, "no_lf": b"\x7fELF\x00" * 1000, "empty.nts": b""}
 FILES |= {"longest.nts": b"threads 1;" + b"x" * 4086 + b"\n", "too_long.nts": b"threads 1\nt0 event e ;" + b"x" * 4085 + b"\n"}
 _, LOOKED_AT, LOOKS = rows_of("ntlook")

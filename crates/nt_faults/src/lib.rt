@@ -17,6 +17,7 @@
 #![tactic(auto)]
 
 mod again;
+mod meant;
 mod message;
 mod near;
 mod place;

@@ -1,5 +1,6 @@
 //! All that is said of a fault.
 
+use crate::meant::{meant, told_of_bytes};
 use crate::near::near;
 use crate::place::Place;
 use crate::shown::{bad_byte, code_of, put_marked, put_shown, without_end, without_return};
@@ -50,22 +51,43 @@ fn put_threads(out: &mut Vec<u8>, threads: u32) -> Result<(), AllocError> {
     put_text(out, "\n")
 }
 
+/// Puts the word that may have been meant.
+fn put_other(out: &mut Vec<u8>, other: &[u8]) -> Result<(), AllocError> {
+    put_text(out, "  did you mean `")?;
+    out.extend_from_slice(other)?;
+    put_text(out, "`?\n")
+}
+
 /// Puts what may have been meant by a word that can't stand in this place, where that can be told.
 fn put_hint(
+    alloc: Global,
     out: &mut Vec<u8>,
     place: Place,
     word: &[u8],
     bindings: &Bindings,
 ) -> Result<(), AllocError> {
+    if word.starts_with(b"#") || word.starts_with(b"//") {
+        return put_text(out, "  a comment begins with `;`\n");
+    }
     if place == Place::Object && caller_of(word).is_some() {
         return put_threads(out, bindings.threads());
     }
+    if let Some(other) = meant(alloc, place, word, bindings)? {
+        return put_other(out, &other);
+    }
     match near(place, word, bindings) {
-        Some(other) => {
-            put_text(out, "  did you mean `")?;
-            out.extend_from_slice(other)?;
-            put_text(out, "`?\n")
-        }
+        Some(other) => put_other(out, other),
+        None => Ok(()),
+    }
+}
+
+/// Puts what wrote the bytes from one that can't stand in a script on, where that is known. It shows at the beginning of a script alone.
+fn put_bytes(out: &mut Vec<u8>, line: &[u8], mark: Mark, opens: bool) -> Result<(), AllocError> {
+    if !opens || mark.place != Place::End {
+        return Ok(());
+    }
+    match told_of_bytes(line.get(mark.start..).unwrap_or(b"")) {
+        Some(text) => put_text(out, text),
         None => Ok(()),
     }
 }
@@ -100,6 +122,7 @@ fn put_stands(out: &mut Vec<u8>, place: Place) -> Result<(), AllocError> {
 
 /// Puts the line with its mark, what may have been meant, and what can stand there.
 fn put_mark(
+    alloc: Global,
     out: &mut Vec<u8>,
     text: &[u8],
     mark: Mark,
@@ -109,7 +132,7 @@ fn put_mark(
     let end = mark.start.saturating_add(mark.length);
     let word = text.get(mark.start..end).unwrap_or(b"");
     if !word.is_empty() {
-        put_hint(out, mark.place, word, bindings)?;
+        put_hint(alloc, out, mark.place, word, bindings)?;
     }
     put_stands(out, mark.place)
 }
@@ -176,7 +199,8 @@ pub(crate) fn put_message(
     match find(line, told.fault.as_str(), bound, bindings.is_none()) {
         Some(mark) => {
             put_place(out, told, Some(mark.start.saturating_add(1)))?;
-            put_mark(out, text, mark, bound)
+            put_mark(alloc, out, text, mark, bound)?;
+            put_bytes(out, line, mark, bindings.is_none())
         }
         None => {
             put_place(out, told, Some(1))?;

@@ -78,6 +78,19 @@ impl Place {
         }
     }
 
+    /// Whether what stands here is told by its letters: a word, a thread or a name.
+    pub(crate) fn is_spelled(self) -> bool {
+        match self {
+            Place::Opening
+            | Place::First
+            | Place::Keyword
+            | Place::Object
+            | Place::Time
+            | Place::Mode => true,
+            _ => false,
+        }
+    }
+
     /// The place's name in the table of lines, where its words need one.
     pub(crate) fn name(self) -> Option<&'static str> {
         match self {
