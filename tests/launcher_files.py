@@ -15,6 +15,8 @@ KNOT, CROSSED = LOOKED_AT["knot.nts"], LOOKED_AT["crossed.nts"]
 LOOKED_AT |= {"crlf.nts": KNOT.replace(b"\n", b"\r\n"), "no_last_lf.nts": KNOT[:-1], "-dash.nts": KNOT, "fault.nts": KNOT + b"t0 sett m1\n"}
 LOOKED_AT |= {"outside.nts": KNOT.replace(b"threads 2", b"threads 3") + b"t2 event e\nt2 any inf plain e\n", "comments.nts": b"; nothing\n\n; but this"}
 LOOKED_AT |= {"crossed_crlf.nts": CROSSED.replace(b"\n", b"\r\n")}
+# More refused calls, and more names, than are told one by one.
+LOOKED_AT |= {"refusals.nts": b"threads 1\n" + b"t0 set 9\n" * 22, "names.nts": b"threads 1\n" + b"".join(b"t0 event %c%c\n" % (it, it) for it in b"abcdefghijklmnopqrstuv")}
 # With names that comments tell, wherever they stand: the last one counts.
 TITLED = CROSSED.replace(b"t0 mutex m1", b"; t0 is first\nt0 mutex m1\n; m1 is accounts") + b"; t0 is main\n; m2 of nobody\n"
 # A journal's objects have the numbers of their handles, and its file has room left.

@@ -2,14 +2,16 @@
 ghost use Rattle.std.specs.Prelude.{◌≡◌, IfOk};
 ghost use Rattle.nt_lines.specs.Lines.{lines_of};
 ghost use Rattle.nt_hangs.specs.Watching.{before_zero, seen_of, unseen};
-ghost use Rattle.nt_timeline.specs.Ending.{IsOutcome};
+ghost use Rattle.nt_timeline.specs.Ending.{IsOutcome, IsTold};
 ghost use Rattle.nt_drawing.specs.Ending.{Creates, DrawingEnds, DrawsInput};
 
 use crate::drawing::drawn;
 use nt_devices::{Counted, Sink};
-use nt_hangs::{InputFault, Report, before_zero, lacks_memory, read_whole, say, show, tell};
+use nt_hangs::{
+    Found, InputFault, Report, before_zero, lacks_memory, read_whole, say, show_found, tell,
+};
 use nt_script::RunFault;
-use nt_timeline::{Film, Part};
+use nt_timeline::{Film, Outcome, Part};
 use std::alloc::{AllocError, Global};
 use std::fs;
 use std::rt::Files;
@@ -51,6 +53,25 @@ fn report_of(
     }
 }
 
+/// What the run comes to, after so many lines.
+fn outcome_of(
+    alloc: Global,
+    file: &[u8],
+    film: &Film,
+    count: u64,
+    form: Form,
+    part: &Part<'_>,
+) -> Result<Outcome, AllocError>
+    ensures { IfOk result IsTold }
+{
+    let lacking = film.lacking(alloc, count, part)?;
+    if !lacking.is_empty() {
+        return Ok(Outcome::Lacking(lacking));
+    }
+    let report = report_of(alloc, file, film, form, part)?;
+    Ok(Outcome::Shown(film.found(alloc, report)?))
+}
+
 /// Runs the script, and answers the drawing of a part of it.
 fn play(
     alloc: Global,
@@ -59,7 +80,7 @@ fn play(
     input: &[u8],
     form: Form,
     part: &Part<'_>,
-) -> Result<Report, RunFault>
+) -> Result<Outcome, RunFault>
     requires { seen_of film.old.watch ≡ unseen }
     ensures { IsOutcome (lines_of input.now) result }
 {
@@ -67,13 +88,13 @@ fn play(
         Ok(count) => count,
         Err(fault) => return Err(fault),
     };
-    match report_of(alloc, file, film, form, part) {
-        Ok(report) => Ok(report),
+    match outcome_of(alloc, file, film, count, form, part) {
+        Ok(outcome) => Ok(outcome),
         Err(_) => Err(RunFault::Memory { line: count }),
     }
 }
 
-/// Runs a script, and answers a part of it as a drawing. The script ends at its first zero byte. `file` is what the drawing calls it.
+/// Runs a script, and answers a part of it as a drawing, or that there is no such part. The script ends at its first zero byte. `file` is what the drawing calls it.
 ///
 /// A line with a fault, or no `threads` line, is told as `ntrun script` tells it; so is want of memory.
 pub fn drawing_on(
@@ -82,7 +103,7 @@ pub fn drawing_on(
     input: &[u8],
     form: Form,
     part: &Part<'_>,
-) -> Result<Report, RunFault>
+) -> Result<Outcome, RunFault>
     ensures { IsOutcome (lines_of (before_zero input.now)) result }
 {
     match Film::new(alloc, true) {
@@ -96,12 +117,17 @@ pub fn drawing_on(
 }
 
 /// Creates the file, and writes the drawing into it; 1 where either fails, which is said on `errors`.
-fn write_drawing<F: Files, E: Sink>(files: &F, out: &str, report: &Report, errors: &mut E) -> u8
-    requires { report.now.code ≡ 0 }
-    ensures { Creates (E.seen errors.old) (E.seen errors.new) result }
+fn write_drawing<F: Files, E: Sink>(
+    files: &F,
+    out: &str,
+    found: &Found,
+    strict: bool,
+    errors: &mut E,
+) -> u8
+    ensures { Creates found.now strict (E.seen errors.old) (E.seen errors.new) result }
 {
     match fs::create(files, out) {
-        Ok(file) => show(report, &mut Counted::new(file), errors),
+        Ok(file) => show_found(found, strict, &mut Counted::new(file), errors),
         Err(_) => say(errors, b"ntlook: cannot create\n", 1),
     }
 }
@@ -113,12 +139,14 @@ fn draw_input<F: Files + AllocGlobal, E: Sink>(
     input: &[u8],
     part: &Part<'_>,
     drawing: Drawing<'_>,
+    strict: bool,
     errors: &mut E,
 ) -> u8
-    ensures { DrawsInput input.now (E.seen errors.old) (E.seen errors.new) result }
+    ensures { DrawsInput input.now strict (E.seen errors.old) (E.seen errors.new) result }
 {
     match drawing_on(files.alloc(), file, input, drawing.form, part) {
-        Ok(report) => write_drawing(files, drawing.out, &report, errors),
+        Ok(Outcome::Shown(found)) => write_drawing(files, drawing.out, &found, strict, errors),
+        Ok(Outcome::Lacking(lines)) => say(errors, lines.as_slice(), 2),
         Err(fault) => tell(files.alloc(), fault, errors),
     }
 }
@@ -130,9 +158,10 @@ pub fn draw_file<F: Files + AllocGlobal, E: Sink>(
     path: &str,
     part: &Part<'_>,
     drawing: Drawing<'_>,
+    strict: bool,
     errors: &mut E,
 ) -> u8
-    ensures { DrawingEnds (E.seen errors.old) (E.seen errors.new) result }
+    ensures { DrawingEnds strict (E.seen errors.old) (E.seen errors.new) result }
 {
     match fs::open(files, path) {
         Ok(file) => match read_whole(files.alloc(), &mut Counted::new(file)) {
@@ -142,6 +171,7 @@ pub fn draw_file<F: Files + AllocGlobal, E: Sink>(
                 input.as_slice(),
                 part,
                 drawing,
+                strict,
                 errors,
             ),
             Err(InputFault::Failed) => say(errors, b"ntlook: read failed\n", 1),

@@ -7,8 +7,7 @@ use crate::marks::{put_before, put_behind, put_lane, put_raw};
 use crate::objects::{ROW, put_row, rows_of};
 use crate::pending::{BULGE, put_pending};
 use crate::style::STYLE;
-use nt_hangs::{code_of, last_moment, put_verdict};
-use nt_look::why;
+use nt_hangs::{code_of, put_verdict, verdict_of};
 use nt_timeline::{Film, Part, Words};
 use std::alloc::{AllocError, Global};
 
@@ -18,6 +17,7 @@ fn put_head(
     out: &mut Vec<u8>,
     file: &[u8],
     (width, height): (u32, u32),
+    film: &Film,
     words: Words<'_>,
 ) -> Result<(), AllocError> {
     put_raw(
@@ -35,7 +35,7 @@ fn put_head(
     )?;
     put_text(alloc, out, "title", 16, 26, file)?;
     let core = words.session.core();
-    let verdict = why(alloc, core, last_moment())?;
+    let verdict = verdict_of(alloc, core, &film.absent)?;
     let mut text = Vec::new(alloc);
     put_verdict(&mut text, core, words.told, &verdict)?;
     let class = if code_of(core, &verdict) == 3 {
@@ -149,7 +149,7 @@ pub(crate) fn picture_of(
     let height = bottom.saturating_add(44 + LEGEND);
     let width = layout.right.saturating_add(BULGE + 10).max(720);
     let mut out = Vec::new(alloc);
-    put_head(alloc, &mut out, file, (width, height), words)?;
+    put_head(alloc, &mut out, file, (width, height), film, words)?;
     put_captions(alloc, &mut out, film, file, width)?;
     put_lanes(alloc, &mut out, layout, words.told)?;
     put_all_behind(alloc, &mut out, film, layout, bottom)?;

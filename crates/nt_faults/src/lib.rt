@@ -27,4 +27,5 @@ mod told;
 mod walk;
 
 pub use again::explain;
+pub use near::nearest_name;
 pub use told::{Told, told_by};

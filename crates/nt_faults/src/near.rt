@@ -68,6 +68,11 @@ impl<'a> Nearest<'a> {
     }
 }
 
+/// The name that may have been meant by a word that no object has for its name.
+pub fn nearest_name<'a>(word: &'a [u8], bindings: &'a Bindings) -> Option<&'a [u8]> {
+    near(Place::Object, word, bindings)
+}
+
 /// The word that may have been meant by one that can't stand in this place.
 pub(crate) fn near<'a>(place: Place, word: &'a [u8], bindings: &'a Bindings) -> Option<&'a [u8]> {
     if word.len() > MOST {

@@ -1,3 +1,4 @@
 pub mod Cutting
 pub mod Seeing
 pub mod Telling
+pub mod Marking

@@ -6,3 +6,4 @@ pub mod Waits
 pub mod Verdicts
 pub mod Reports
 pub mod Ending
+pub mod Absent

@@ -39,7 +39,7 @@ verdict_text s told stuck knot next =
     if len s.waits == 0 then codes "nobody waits"
     else if nat_lt 0 (marks_in knot) then knot_text told knot s.threads ++ others_text (stuck && nat_lt (marks_in knot) (len s.waits))
     else if stuck then codes "stuck: whoever runs waits, and nothing can end that"
-    else codes "the waits can end" ++ next_text next
+    else codes "nothing rules out that the waits end" ++ next_text next
 
 -- the exit status: 0 if nobody waits, 3 if some waits never end, else 4
 abbrev pub code_of : State → Bool → List Bool → ℕ

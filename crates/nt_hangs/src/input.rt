@@ -28,6 +28,20 @@ pub fn before_zero(bytes: &[u8]) -> &[u8]
     &bytes[..zero_start(bytes)]
 }
 
+/// How many lines there are.
+pub(crate) fn lines_in(bytes: &[u8]) -> u64
+    ensures { result ≡ length (lines_of bytes.now) }
+{
+    let mut rest = bytes;
+    let mut count: u64 = 0;
+    while !rest.is_empty() {
+        let (_line, after) = first_line(rest);
+        rest = after;
+        count += 1;
+    }
+    count
+}
+
 /// The first line, without the LF that ends it, and what stands after it.
 pub fn first_line(bytes: &[u8]) -> (&[u8], &[u8])
     requires { bytes.now ≢ [] }

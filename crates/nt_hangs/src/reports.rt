@@ -4,17 +4,19 @@ ghost use Rattle.nt_lines.specs.Lines.{lines_of};
 ghost use Rattle.nt_core.specs.Dispatcher.{state};
 ghost use Rattle.nt_script.specs.Progress.{progress};
 ghost use Rattle.nt_status.specs.declared.limits.TheConstants.{MAX_MOMENT};
-ghost use Rattle.nt_hangs.specs.Reports.{head_text, place_text, report_text, IsReport, Reports, ReportsOf};
+ghost use Rattle.nt_hangs.specs.Reports.{head_text, place_text, report_text, IsReport, Reports, ReportsOf, ReportsSeen, FindsSeen};
 ghost use Rattle.nt_hangs.specs.Verdicts.{verdict_text};
 ghost use Rattle.nt_hangs.specs.Watching.{before_zero, seen_of, unseen, lines_up_to};
 
+use crate::absent::{absent_in, verdict_of};
 use crate::input::before_zero;
+use crate::refusals::refusals_line;
 use crate::text::put_number;
 use crate::verdicts::{code_of, put_verdict};
 use crate::waits::put_waiters;
 use crate::watch::Watch;
 use nt_core::Core;
-use nt_look::{Verdict, why};
+use nt_look::Verdict;
 use nt_script::{RunFault, Session};
 use nt_status::{MAX_MOMENT, Moment};
 use std::alloc::{AllocError, Global};
@@ -99,6 +101,16 @@ pub struct Report {
     pub code: u8,
 }
 
+/// What is told of a script, and of its calls that were refused.
+#[derive(Drop)]
+pub struct Found {
+    pub report: Report,
+    /// How many calls and ticks were refused.
+    pub refused: u64,
+    /// The line that tells which were; empty where none was.
+    pub line: Vec<u8>,
+}
+
 /// The greatest moment.
 pub fn last_moment() -> Moment
     ensures { result ≡ MAX_MOMENT }
@@ -109,7 +121,7 @@ pub fn last_moment() -> Moment
     }
 }
 
-/// The report of a session after so many lines.
+/// The report of a session after so many lines, where the marked threads make no call.
 fn report_of(
     alloc: Global,
     file: &[u8],
@@ -118,12 +130,13 @@ fn report_of(
     since: &[u64],
     objects: &[u32],
     told: &[u8],
+    absent: &[bool],
 ) -> Result<Report, AllocError>
     ensures { IfOk result (λ report. IsReport file.now count (progress session.now) since.now objects.now told.now
-        report.text.items report.code) }
+        absent.now report.text.items report.code) }
 {
     let core = session.core();
-    let verdict = why(alloc, core, last_moment())?;
+    let verdict = verdict_of(alloc, core, absent)?;
     let mut text = Vec::new(alloc);
     put_report(
         &mut text, file, count, session, since, objects, told, &verdict,
@@ -135,9 +148,15 @@ fn report_of(
 }
 
 impl Watch {
-    /// The report of what is seen after so many lines.
-    fn tell(&self, alloc: Global, file: &[u8], count: u64) -> Result<Report, AllocError>
-        ensures { IfOk result (ReportsOf file.now count (seen_of self.now)) }
+    /// The report of what is seen after so many lines, where the marked threads make no call.
+    fn tell(
+        &self,
+        alloc: Global,
+        file: &[u8],
+        count: u64,
+        absent: &[bool],
+    ) -> Result<Report, AllocError>
+        ensures { IfOk result (ReportsOf file.now count (seen_of self.now) absent.now) }
     {
         match &self.session {
             Some(session) => report_of(
@@ -148,6 +167,7 @@ impl Watch {
                 &self.since,
                 &self.objects,
                 &self.told,
+                absent,
             ),
             None => Err(AllocError),
         }
@@ -160,20 +180,63 @@ impl Watch {
         file: &[u8],
         input: &[u8],
         last: Option<u64>,
+        absent: &[bool],
     ) -> Result<Report, RunFault>
         requires { seen_of self.old ≡ unseen }
-        ensures { Reports file.now (lines_up_to last (lines_of input.now)) result }
+        ensures { ReportsSeen file.now (lines_up_to last (lines_of input.now)) (seen_of self.new) absent.now result }
     {
         let count = self.watch(alloc, input, last)?;
-        match self.tell(alloc, file, count) {
+        match self.tell(alloc, file, count, absent) {
             Ok(report) => Ok(report),
             Err(_) => Err(RunFault::Memory { line: count }),
+        }
+    }
+
+    /// The same, with the calls that were refused.
+    fn found(
+        &mut self,
+        alloc: Global,
+        file: &[u8],
+        input: &[u8],
+        last: Option<u64>,
+        absent: &[bool],
+    ) -> Result<Found, RunFault>
+        requires { seen_of self.old ≡ unseen }
+        ensures { FindsSeen file.now (lines_up_to last (lines_of input.now)) (seen_of self.new) absent.now result }
+    {
+        match self.report(alloc, file, input, last, absent) {
+            Ok(report) => match refusals_line(alloc, self.refused(), self.refusals()) {
+                Ok(line) => Ok(Found {
+                    report,
+                    refused: self.refused(),
+                    line,
+                }),
+                Err(_) => Err(RunFault::Memory { line: 1 }),
+            },
+            Err(fault) => Err(fault),
+        }
+    }
+
+    /// Finds which threads are none of the script's, carries out the lines up to this one, and reports.
+    fn run_to(
+        &mut self,
+        alloc: Global,
+        file: &[u8],
+        script: &[u8],
+        last: Option<u64>,
+    ) -> Result<Found, RunFault>
+        requires { seen_of self.old ≡ unseen }
+        ensures { Reports file.now (lines_up_to last (lines_of script.now)) (lines_of script.now) result }
+    {
+        match absent_in(alloc, script) {
+            Ok(absent) => self.found(alloc, file, script, last, &absent),
+            Err(_) => Err(RunFault::Memory { line: 1 }),
         }
     }
 }
 
 /// Runs a script up to a line, or to its end, and reports why its threads wait there. The script ends at its first zero byte. `file` is
-/// what the report calls it.
+/// what the report calls it. A thread without a line in the whole script is none of the run's, and ends no wait.
 ///
 /// A line with a fault, or no `threads` line, is told as `ntrun script` tells it; so is want of memory.
 pub fn report_on(
@@ -181,12 +244,12 @@ pub fn report_on(
     file: &[u8],
     input: &[u8],
     last: Option<u64>,
-) -> Result<Report, RunFault>
-    ensures { Reports file.now (lines_up_to last (lines_of (before_zero input.now))) result }
+) -> Result<Found, RunFault>
+    ensures { Reports file.now (lines_up_to last (lines_of (before_zero input.now))) (lines_of (before_zero input.now)) result }
 {
     match Watch::new(alloc) {
         Ok(mut watch) => {
-            let answer = watch.report(alloc, file, before_zero(input), last);
+            let answer = watch.run_to(alloc, file, before_zero(input), last);
             drop(watch);
             answer
         }

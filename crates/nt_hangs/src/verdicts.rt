@@ -20,7 +20,7 @@ pub fn marks_in(marks: &[bool]) -> usize
 }
 
 /// Whether the thread has a mark.
-fn is_marked(marks: &[bool], thread: u32) -> bool
+pub(crate) fn is_marked(marks: &[bool], thread: u32) -> bool
     ensures { result ≡ marked marks.now thread }
 {
     match marks.get(thread as usize) {
@@ -126,11 +126,11 @@ fn put_next(out: &mut Vec<u8>, next: Option<Moment>) -> Result<(), AllocError>
     }
 }
 
-/// Puts that the waits can end, and when something is due.
+/// Puts that nothing rules out that the waits end, and when something is due.
 fn put_open(out: &mut Vec<u8>, next: Option<Moment>) -> Result<(), AllocError>
-    ensures { OnOk result (out.new.items ≡ out.old.items ++ (codes "the waits can end" ++ next_text next)) }
+    ensures { OnOk result (out.new.items ≡ out.old.items ++ (codes "nothing rules out that the waits end" ++ next_text next)) }
 {
-    out.extend_from_slice(b"the waits can end")?;
+    out.extend_from_slice(b"nothing rules out that the waits end")?;
     put_next(out, next)
 }
 

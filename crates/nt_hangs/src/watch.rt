@@ -12,6 +12,7 @@ ghost use Rattle.nt_hangs.specs.Steps.{is_last, LineHasFault, IsFaultOf, Watches
 ghost use Rattle.nt_hangs.specs.Watching.{is_waiting, names_of, newly_named, object_of, seen_of, since_of, since_then, telling, unseen, lines_up_to, Sees};
 
 use crate::input::first_line;
+use crate::refusals::note_refusal;
 use nt_grammar::{LineFault, ScriptFault};
 use nt_lines::MAX_LINE;
 use nt_script::{RunFault, Session, carry_out};
@@ -33,6 +34,9 @@ pub struct Watch {
     pub(crate) told: Vec<u8>,
     /// What the last line said.
     out: Vec<u8>,
+    /// How many calls were refused, and which, in words.
+    refused: u64,
+    refusals: Vec<u8>,
 }
 
 /// Since when a thread waits, after the line with this number.
@@ -156,6 +160,8 @@ impl Watch {
             objects: Vec::new(alloc),
             told: Vec::new(alloc),
             out: Vec::new(alloc),
+            refused: 0,
+            refusals: Vec::new(alloc),
         })
     }
 
@@ -185,6 +191,8 @@ impl Watch {
         note_waits(&mut self.since, &self.session, number);
         note_object(&mut self.objects, &self.session, place)?;
         note_comment(&mut self.told, line)?;
+        let refused = note_refusal(&mut self.refusals, self.refused, number, &self.out)?;
+        self.refused = refused;
         Ok(())
     }
 
@@ -226,6 +234,16 @@ impl Watch {
         ensures { result.now ≡ (seen_of self.now).told }
     {
         &self.told
+    }
+
+    /// How many calls and ticks were refused.
+    pub fn refused(&self) -> u64 {
+        self.refused
+    }
+
+    /// Which of them were, in words; of many the first.
+    pub fn refusals(&self) -> &[u8] {
+        &self.refusals
     }
 
     /// By the places of names, the numbers of the objects that they were given to.

@@ -1,5 +1,5 @@
 -- What the words of a command line ask for.
-use Rattle.std.specs.Prelude.{ℕ, ◌==◌, ◌&&◌, ◌||◌, nat_le, nat_lt, Bool, true, not, List, [], ◌∷◌, length, Option, None, Some, option_map, option_and_then, is_some, take, drop, position, Result, Ok, Err, if◌then◌else◌, codes}
+use Rattle.std.specs.Prelude.{ℕ, ◌==◌, ◌&&◌, ◌||◌, nat_le, nat_lt, Bool, true, false, not, List, [], ◌∷◌, length, Option, None, Some, option_map, option_and_then, is_some, take, drop, position, Result, Ok, Err, if◌then◌else◌, codes}
 use Rattle.std.specs.Str.{bytes_eq}
 use Rattle.std.specs.Option.{option_copied}
 use Rattle.nt_lines.specs.Options.{ends_options, is_operand}
@@ -13,7 +13,7 @@ use Rattle.nt_look_commands.specs.declared.command.Command.TheVariants as comman
 use Rattle.nt_look_commands.specs.declared.look.TheConstants.{MANY_STATES, MOST_STATES}
 use Rattle.nt_look_commands.specs.declared.look.Look.{Look}
 use Rattle.nt_look_commands.specs.declared.look.Look.TheVariants as look
-use Rattle.nt_look_commands.specs.Commands.{command_of, has_option}
+use Rattle.nt_look_commands.specs.Commands.{can_be_strict, command_of, has_option}
 
 -- ---- the words after a command
 
@@ -48,8 +48,8 @@ are_lawful_options command (word ∷ value ∷ others) =
 
 -- what a command is to do
 pub data LookAsked : Type 0 where
-  AskedWhy : (file : List ℕ) → (at : Option ℕ) → LookAsked
-  AskedTimeline : (file : List ℕ) → (lines : Option (ℕ × ℕ)) → (object : Option (List ℕ)) → (thread : Option ℕ) → (drawing : Option (Form × List ℕ)) → LookAsked
+  AskedWhy : (file : List ℕ) → (at : Option ℕ) → (strict : Bool) → LookAsked
+  AskedTimeline : (file : List ℕ) → (lines : Option (ℕ × ℕ)) → (object : Option (List ℕ)) → (thread : Option ℕ) → (drawing : Option (Form × List ℕ)) → (strict : Bool) → LookAsked
   AskedExplore : (file : List ℕ) → (most : ℕ) → LookAsked
 
 -- the form of a drawing, and the file
@@ -57,9 +57,9 @@ abbrev pub drawing_asked : Drawing → Form × List ℕ
 drawing_asked drawing = (drawing.form, drawing.out.now)
 
 abbrev pub look_asked : Look → LookAsked
-look_asked (look.Why file at) = AskedWhy file.now at
-look_asked (look.Timeline file part drawing) =
-    AskedTimeline file.now part.lines (option_copied part.object) part.thread (option_map drawing_asked drawing)
+look_asked (look.Why file at strict) = AskedWhy file.now at strict
+look_asked (look.Timeline file part drawing strict) =
+    AskedTimeline file.now part.lines (option_copied part.object) part.thread (option_map drawing_asked drawing) strict
 look_asked (look.Explore file most) = AskedExplore file.now most
 
 -- the number of a line, from 1 on
@@ -71,8 +71,8 @@ abbrev pub told : {X : Type 0} → (List ℕ → Option X) → Option (List ℕ)
 told reading None = Some None
 told reading (Some word) = option_map (λ x. Some x) (reading word)
 
-abbrev pub why_in : List ℕ → List (List ℕ) → Option LookAsked
-why_in file words = option_map (AskedWhy file) (told line_number_in (option_value_in (codes "--at") words))
+abbrev pub why_in : Bool → List ℕ → List (List ℕ) → Option LookAsked
+why_in strict file words = option_map (λ at. AskedWhy file at strict) (told line_number_in (option_value_in (codes "--at") words))
 
 -- the number of a line after `..`
 unfoldable pub after_dots : List ℕ → Option ℕ
@@ -109,9 +109,9 @@ drawing_in words =
 abbrev pub narrowed_in : List (List ℕ) → Option (Option (ℕ × ℕ) × Option ℕ)
 narrowed_in words = both (told line_range_in (option_value_in (codes "--lines") words)) (told caller_of (option_value_in (codes "--thread") words))
 
-abbrev pub timeline_in : List ℕ → List (List ℕ) → Option LookAsked
-timeline_in file words =
-    option_map (λ asked. AskedTimeline file asked.0.0 (option_value_in (codes "--object") words) asked.0.1 asked.1)
+abbrev pub timeline_in : Bool → List ℕ → List (List ℕ) → Option LookAsked
+timeline_in strict file words =
+    option_map (λ asked. AskedTimeline file asked.0.0 (option_value_in (codes "--object") words) asked.0.1 asked.1 strict)
     (both (narrowed_in words) (drawing_in words))
 
 -- how many states may be met
@@ -130,14 +130,28 @@ abbrev pub explore_in : List ℕ → List (List ℕ) → Option LookAsked
 explore_in file words = option_map (AskedExplore file) (most_in words)
 
 -- what the command is to do with the file
-abbrev pub on_file : Command → List ℕ → List (List ℕ) → Option LookAsked
-on_file command.Why file words = why_in file words
-on_file command.Timeline file words = timeline_in file words
-on_file command.Explore file words = explore_in file words
+abbrev pub on_file : Command → Bool → List ℕ → List (List ℕ) → Option LookAsked
+on_file command.Why strict file words = why_in strict file words
+on_file command.Timeline strict file words = timeline_in strict file words
+on_file command.Explore strict file words = explore_in file words
+
+-- whether the words after a command begin with `--strict`, where the command can be strict
+unfoldable pub is_strict : Command → List (List ℕ) → Bool
+is_strict command [] = false
+is_strict command (word ∷ words) = can_be_strict command && bytes_eq word (codes "--strict")
+
+-- the words after that
+abbrev pub after_strict : Bool → List (List ℕ) → List (List ℕ)
+after_strict strict words = drop (if strict then 1 else 0) words
+
+-- what these words ask for, if they are lawful
+abbrev pub asked_of : Command → Bool → List (List ℕ) → Option LookAsked
+asked_of command strict words =
+    if are_lawful_options command words then option_and_then (λ file. on_file command strict file words) (file_in words) else None
 
 -- what these words after the command ask for, if they are lawful
 abbrev pub asked_after : Command → List (List ℕ) → Option LookAsked
-asked_after command words = if are_lawful_options command words then option_and_then (λ file. on_file command file words) (file_in words) else None
+asked_after command words = asked_of command (is_strict command words) (after_strict (is_strict command words) words)
 
 -- the same, or the command whose usage is to be told
 abbrev pub or_usage : Command → Option LookAsked → Result LookAsked (Option Command)

@@ -1,5 +1,5 @@
 -- How the program `ntlook` ends.
-use Rattle.std.specs.Prelude.{◌≡◌, ◌⊎◌, ℕ, List, Option, None, Some, Result, Ok, Err}
+use Rattle.std.specs.Prelude.{◌≡◌, ◌⊎◌, ℕ, Bool, List, Option, None, Some, Result, Ok, Err}
 use Rattle.nt_devices.specs.Device.{Says, Writing}
 use Rattle.nt_hangs.specs.Ending.{FileTold, SaysMemory}
 use Rattle.nt_drawing.specs.declared.draw.Form.{Form}
@@ -11,21 +11,21 @@ use Rattle.nt_look_commands.specs.Commands.{look_usage, usage_of}
 use Rattle.nt_look_commands.specs.CommandLine.{LookAsked, AskedExplore, AskedTimeline, AskedWhy}
 
 -- It is said that memory ran out; or the file was told of, to some writer.
-abbrev pub PrintTold : List ℕ → Option ℕ → (errors errors' : Writing) → (status : ℕ) → Type 0
-PrintTold file last errors errors' status =
+abbrev pub PrintTold : List ℕ → Option ℕ → Bool → (errors errors' : Writing) → (status : ℕ) → Type 0
+PrintTold file last strict errors errors' status =
     SaysMemory errors errors' status
-    ⊎ ((writer writer' : Writing) × FileTold file last writer writer' errors errors' status)
+    ⊎ ((writer writer' : Writing) × FileTold file last strict writer writer' errors errors' status)
 
 -- It is said that memory ran out; or the timeline of a file was told, to some writer.
-abbrev pub PrintTimeline : (errors errors' : Writing) → (status : ℕ) → Type 0
-PrintTimeline errors errors' status =
+abbrev pub PrintTimeline : Bool → (errors errors' : Writing) → (status : ℕ) → Type 0
+PrintTimeline strict errors errors' status =
     SaysMemory errors errors' status
-    ⊎ ((writer writer' : Writing) × TimelineTold writer writer' errors errors' status)
+    ⊎ ((writer writer' : Writing) × TimelineTold strict writer writer' errors errors' status)
 
 -- The timeline is text, or a drawing where a file is named for it.
-abbrev pub MakesTimeline : Option (Form × List ℕ) → (errors errors' : Writing) → (status : ℕ) → Type 0
-MakesTimeline None errors errors' status = PrintTimeline errors errors' status
-MakesTimeline (Some drawing) errors errors' status = DrawingEnds errors errors' status
+abbrev pub MakesTimeline : Option (Form × List ℕ) → Bool → (errors errors' : Writing) → (status : ℕ) → Type 0
+MakesTimeline None strict errors errors' status = PrintTimeline strict errors errors' status
+MakesTimeline (Some drawing) strict errors errors' status = DrawingEnds strict errors errors' status
 
 -- It is said that memory ran out; or it was told of the orders of a file, to some writer.
 abbrev pub PrintOrders : (most : ℕ) → (errors errors' : Writing) → (status : ℕ) → Type 0
@@ -41,6 +41,6 @@ usage_for (Some command) = usage_of command
 -- What was asked for was done; or the usage was told.
 abbrev pub CommandEnds : Result LookAsked (Option Command) → (errors errors' : Writing) → (status : ℕ) → Type 0
 CommandEnds (Err command) errors errors' status = Says errors errors' (usage_for command) × (status ≡ 2)
-CommandEnds (Ok (AskedWhy file at)) errors errors' status = PrintTold file at errors errors' status
-CommandEnds (Ok (AskedTimeline file lines object thread drawing)) errors errors' status = MakesTimeline drawing errors errors' status
+CommandEnds (Ok (AskedWhy file at strict)) errors errors' status = PrintTold file at strict errors errors' status
+CommandEnds (Ok (AskedTimeline file lines object thread drawing strict)) errors errors' status = MakesTimeline drawing strict errors errors' status
 CommandEnds (Ok (AskedExplore file most)) errors errors' status = PrintOrders most errors errors' status

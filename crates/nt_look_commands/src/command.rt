@@ -1,6 +1,6 @@
 //! The commands, with the options and the usage line of each.
 ghost use Rattle.std.specs.Prelude.{◌≡◌};
-ghost use Rattle.nt_look_commands.specs.Commands.{command_of, has_option, is_drawing, usage_of};
+ghost use Rattle.nt_look_commands.specs.Commands.{can_be_strict, command_of, has_option, is_drawing, usage_of};
 ghost use Rattle.nt_look_commands.specs.declared.command.Command.TheVariants.{Timeline};
 
 /// A command of the program.
@@ -55,14 +55,24 @@ impl Command {
         }
     }
 
+    /// Whether the command can be strict.
+    pub(crate) fn can_be_strict(self) -> bool
+        ensures { result ≡ can_be_strict self }
+    {
+        match self {
+            Command::Why | Command::Timeline => true,
+            Command::Explore => false,
+        }
+    }
+
     /// The line that tells how the command is called.
     pub fn usage(self) -> &'static [u8]
         ensures { result.now ≡ usage_of self }
     {
         match self {
-            Command::Why => b"ntlook: usage: ntlook why FILE [--at LINE]\n",
+            Command::Why => b"ntlook: usage: ntlook why [--strict] FILE [--at LINE]\n",
             Command::Timeline => {
-                b"ntlook: usage: ntlook timeline FILE [--lines A..B] [--object NAME] [--thread tN] [--svg OUT | --html OUT | --trace OUT]\n"
+                b"ntlook: usage: ntlook timeline [--strict] FILE [--lines A..B] [--object NAME] [--thread tN] [--svg OUT | --html OUT | --trace OUT]\n"
             }
             Command::Explore => {
                 b"ntlook: usage: ntlook explore FILE [--most STATES]   (1 to 4000000000; 1000000 if left out)\n"

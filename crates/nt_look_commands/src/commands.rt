@@ -14,8 +14,8 @@ use std::io::{self, BufWriter, Print};
 use std::rt::Files;
 
 /// The usage of all commands.
-const USAGE: &[u8] = b"ntlook: usage: ntlook why FILE [--at LINE]
-ntlook: usage: ntlook timeline FILE [--lines A..B] [--object NAME] [--thread tN] [--svg OUT | --html OUT | --trace OUT]
+const USAGE: &[u8] = b"ntlook: usage: ntlook why [--strict] FILE [--at LINE]
+ntlook: usage: ntlook timeline [--strict] FILE [--lines A..B] [--object NAME] [--thread tN] [--svg OUT | --html OUT | --trace OUT]
 ntlook: usage: ntlook explore FILE [--most STATES]   (1 to 4000000000; 1000000 if left out)
 ";
 
@@ -24,12 +24,13 @@ fn print_why<R: Files + AllocGlobal + Print, E: Sink>(
     rt: &R,
     path: &str,
     last: Option<u64>,
+    strict: bool,
     errors: &mut E,
 ) -> u8
-    ensures { PrintTold path.now last (E.seen errors.old) (E.seen errors.new) result }
+    ensures { PrintTold path.now last strict (E.seen errors.old) (E.seen errors.new) result }
 {
     match BufWriter::new(rt.alloc(), io::writer(rt)) {
-        Ok(writer) => why_file(rt, path, last, &mut Counted::new(writer), errors),
+        Ok(writer) => why_file(rt, path, last, strict, &mut Counted::new(writer), errors),
         Err(_) => lacks_memory(errors),
     }
 }
@@ -39,12 +40,13 @@ fn print_timeline<R: Files + AllocGlobal + Print, E: Sink>(
     rt: &R,
     path: &str,
     part: &Part<'_>,
+    strict: bool,
     errors: &mut E,
 ) -> u8
-    ensures { PrintTimeline (E.seen errors.old) (E.seen errors.new) result }
+    ensures { PrintTimeline strict (E.seen errors.old) (E.seen errors.new) result }
 {
     match BufWriter::new(rt.alloc(), io::writer(rt)) {
-        Ok(writer) => timeline_file(rt, path, part, &mut Counted::new(writer), errors),
+        Ok(writer) => timeline_file(rt, path, part, strict, &mut Counted::new(writer), errors),
         Err(_) => lacks_memory(errors),
     }
 }
@@ -80,13 +82,14 @@ fn make_timeline<R: Files + AllocGlobal + Print, E: Sink>(
     path: &str,
     part: &Part<'_>,
     drawing: Option<Drawing<'_>>,
+    strict: bool,
     errors: &mut E,
 ) -> u8
-    ensures { MakesTimeline (option_map drawing_asked drawing.entry) (E.seen errors.old) (E.seen errors.new) result }
+    ensures { MakesTimeline (option_map drawing_asked drawing.entry) strict (E.seen errors.old) (E.seen errors.new) result }
 {
     match drawing {
-        Some(drawing) => draw_file(rt, path, part, drawing, errors),
-        None => print_timeline(rt, path, part, errors),
+        Some(drawing) => draw_file(rt, path, part, drawing, strict, errors),
+        None => print_timeline(rt, path, part, strict, errors),
     }
 }
 
@@ -95,12 +98,13 @@ fn take_look<R: Files + AllocGlobal + Print, E: Sink>(rt: &R, look: Look<'_>, er
     ensures { CommandEnds (Ok (look_asked look.entry)) (E.seen errors.old) (E.seen errors.new) result }
 {
     match look {
-        Look::Why { file, at } => print_why(rt, file, at, errors),
+        Look::Why { file, at, strict } => print_why(rt, file, at, strict, errors),
         Look::Timeline {
             file,
             part,
             drawing,
-        } => make_timeline(rt, file, &part, drawing, errors),
+            strict,
+        } => make_timeline(rt, file, &part, drawing, strict, errors),
         Look::Explore { file, most } => print_orders(rt, file, most, errors),
     }
 }

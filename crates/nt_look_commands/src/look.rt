@@ -1,6 +1,6 @@
 //! What a command line asks for.
 ghost use Rattle.std.specs.Prelude.{◌≡◌, ◌<◌, None, Some, IfSome, length, option_map, position, MatchOption, MatchResult, codes, map, string_bytes};
-ghost use Rattle.nt_look_commands.specs.CommandLine.{asked_after, drawing_asked, drawing_in, after_dots, look_asked, both, explore_in, is_dot, line_number_in, line_range_in, look_of, most_in, most_of, timeline_in, told, option_value_in, why_in};
+ghost use Rattle.nt_look_commands.specs.CommandLine.{asked_after, asked_of, drawing_asked, is_strict, drawing_in, after_dots, look_asked, both, explore_in, is_dot, line_number_in, line_range_in, look_of, most_in, most_of, timeline_in, told, option_value_in, why_in};
 ghost use Rattle.nt_lines.specs.Words.{caller_of};
 ghost use Rattle.nt_look_commands.specs.Looks.{FindsLook};
 
@@ -19,16 +19,18 @@ const MANY_STATES: u64 = 1_000_000;
 /// What the program is to do.
 #[derive(Clone, Copy, Debug)]
 pub enum Look<'a> {
-    /// Report why the threads of the script in this file wait after a line, or at its end.
+    /// Report why the threads of the script in this file wait after a line, or at its end; strictly, a refused call counts as a fault.
     Why {
         file: &'a str,
         at: Option<u64>,
+        strict: bool,
     },
-    /// Write a part of the timeline of the script in this file: as text, or as a drawing into another file.
+    /// Write a part of the timeline of the script in this file: as text, or as a drawing into another file; strictly, likewise.
     Timeline {
         file: &'a str,
         part: Part<'a>,
         drawing: Option<Drawing<'a>>,
+        strict: bool,
     },
     /// Explore the orders of the lines of the script in this file, until so many states are met.
     Explore {
@@ -62,11 +64,11 @@ fn line_in(option: &str, words: &[String]) -> Option<Option<u64>>
 }
 
 /// `ntlook why`
-fn why_in<'a>(file: &'a str, words: &[String]) -> Option<Look<'a>>
-    ensures { FindsLook (why_in file.now (map string_bytes words.now)) result }
+fn why_in<'a>(strict: bool, file: &'a str, words: &[String]) -> Option<Look<'a>>
+    ensures { FindsLook (why_in strict file.now (map string_bytes words.now)) result }
 {
     match line_in("--at", words) {
-        Some(at) => Some(Look::Why { file, at }),
+        Some(at) => Some(Look::Why { file, at, strict }),
         None => None,
     }
 }
@@ -163,8 +165,8 @@ fn drawing_in(words: &[String]) -> Option<Option<Drawing<'_>>>
 }
 
 /// `ntlook timeline`
-fn timeline_in<'a>(file: &'a str, words: &'a [String]) -> Option<Look<'a>>
-    ensures { FindsLook (timeline_in file.now (map string_bytes words.now)) result }
+fn timeline_in<'a>(strict: bool, file: &'a str, words: &'a [String]) -> Option<Look<'a>>
+    ensures { FindsLook (timeline_in strict file.now (map string_bytes words.now)) result }
 {
     match (lines_in(words), thread_in(words), drawing_in(words)) {
         (Some(lines), Some(thread), Some(drawing)) => {
@@ -178,6 +180,7 @@ fn timeline_in<'a>(file: &'a str, words: &'a [String]) -> Option<Look<'a>>
                 file,
                 part,
                 drawing,
+                strict,
             })
         }
         _ => None,
@@ -214,17 +217,39 @@ fn explore_in<'a>(file: &'a str, words: &[String]) -> Option<Look<'a>>
     }
 }
 
+/// Whether the words after a command begin with `--strict`, where the command can be strict.
+#[tactic(auto, unfolding(crate::specs::CommandLine::is_strict))]
+fn is_strict(command: Command, words: &[String]) -> bool
+    ensures strict { result ≡ is_strict command (map string_bytes words.now) }
+{
+    match words {
+        [word, ..] => command.can_be_strict() && word.as_str() == "--strict",
+        [] => false,
+    }
+}
+
 /// What the words after the command ask for, if they are lawful.
 fn after(command: Command, words: &[String]) -> Option<Look<'_>>
     ensures { FindsLook (asked_after command (map string_bytes words.now)) result }
+{
+    if is_strict(command, words) {
+        asked_of(command, true, words.get(1..).unwrap_or(&[]))
+    } else {
+        asked_of(command, false, words)
+    }
+}
+
+/// What the words after the command and `--strict`, if that stands there, ask for.
+fn asked_of(command: Command, strict: bool, words: &[String]) -> Option<Look<'_>>
+    ensures { FindsLook (asked_of command strict (map string_bytes words.now)) result }
 {
     if !are_lawful(command, words) {
         return None;
     }
     match file_in(words) {
         Some(file) => match command {
-            Command::Why => why_in(file, words),
-            Command::Timeline => timeline_in(file, words),
+            Command::Why => why_in(strict, file, words),
+            Command::Timeline => timeline_in(strict, file, words),
             Command::Explore => explore_in(file, words),
         },
         None => None,

@@ -3,13 +3,14 @@ ghost use Rattle.std.specs.Prelude.{◌≡◌, ◌+◌, ◌≤◌, IfErr, IfOk, 
 ghost use Rattle.nt_status.specs.declared.limits.TheConstants.{MAX_THREADS};
 ghost use Rattle.nt_lines.specs.Lines.{lines_of};
 ghost use Rattle.nt_script.specs.Progress.{AreCounted};
+ghost use Rattle.nt_hangs.specs.Absent.{AreAbsent};
 ghost use Rattle.nt_hangs.specs.Steps.{IsFaultOf, WatchesLines};
 ghost use Rattle.nt_hangs.specs.Watching.{seen_of, unseen, Sees};
 
 use crate::kept::Kept;
 use crate::labels::Words;
 use nt_grammar::ScriptFault;
-use nt_hangs::{Watch, first_line};
+use nt_hangs::{Watch, absent_in, first_line};
 use nt_script::RunFault;
 use std::alloc::{AllocError, Global};
 
@@ -18,6 +19,8 @@ use std::alloc::{AllocError, Global};
 pub struct Film {
     pub watch: Watch,
     pub kept: Kept,
+    /// The marks of the threads that are none of the script's.
+    pub absent: Vec<bool>,
 }
 
 impl Film {
@@ -28,6 +31,7 @@ impl Film {
         Ok(Film {
             watch: Watch::new(alloc)?,
             kept: Kept::new(alloc, is_drawn)?,
+            absent: Vec::new(alloc),
         })
     }
 
@@ -104,6 +108,15 @@ impl Film {
         Ok(count)
     }
 
+    /// Notes which threads are none of the script's.
+    fn note_absent(&mut self, alloc: Global, input: &[u8]) -> Result<(), AllocError>
+        ensures watch { self.new.watch ≡ self.old.watch }
+        ensures absent { OnOk result (AreAbsent (lines_of input.now) self.new.absent.items) }
+    {
+        self.absent = absent_in(alloc, input)?;
+        Ok(())
+    }
+
     /// The same, and that there is a `threads` line among them.
     pub fn run(
         &mut self,
@@ -114,6 +127,9 @@ impl Film {
         requires { seen_of self.old.watch ≡ unseen }
         ensures { WatchesLines (lines_of input.now) result (seen_of self.new.watch) }
     {
+        if self.note_absent(alloc, input).is_err() {
+            return Err(RunFault::Memory { line: 1 });
+        }
         match self.take_lines(alloc, input, object) {
             Ok(count) => match self.watch.session() {
                 Some(_) => Ok(count),
