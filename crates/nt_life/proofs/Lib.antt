@@ -14,3 +14,4 @@ mod Aside
 mod Gathering
 pub mod Once
 pub mod Telling
+pub mod Returning

@@ -1,5 +1,5 @@
 -- The object whose turn it is.
-use Rattle.std.proofs.Common.{◌≡◌, ◌<◌, ℕ, ◌-◌, Bool, true, false, ◌&&◌, List, length, get_or, refl, sym, ap, ◌∙◌, subst, arith, Option, None, Some, inl, inr}
+use Rattle.std.proofs.Common.{◌≡◌, ◌<◌, ℕ, ◌-◌, Bool, true, false, ◌&&◌, ◌||◌, List, length, get_or, refl, sym, ap, ◌∙◌, subst, arith, Option, None, Some, inl, inr}
 use Rattle.std.specs.Prelude.{nat_lt, MatchBool, if◌then◌else◌}
 use Rattle.std.specs.declared.result.Result.{Result}
 use Rattle.std.proofs.lemmas.Bool.{true≢false}
@@ -12,7 +12,7 @@ use Rattle.nt_calls.specs.declared.call.Grant.{Grant}
 use Rattle.nt_calls.specs.State.{State}
 use Rattle.nt_core.specs.Renewals.{is_vacant, CreatesAgain}
 use Rattle.nt_core.proofs.Remaining.{both}
-use Rattle.nt_life.specs.Lasting.{Spares, IsFound, is_creation, is_last_vacant, is_turn_vacant, can_give_last, can_give_turn, last_closed, last_unnamed, next_turn, turn_after, turn_place, turn_unnamed, CreatesByTurn, CreatesElse, LastsCreation}
+use Rattle.nt_life.specs.Lasting.{Spares, IsFound, is_creation, is_last_vacant, is_turn_vacant, can_give_last, can_give_turn, last_closed, last_unnamed, next_turn, turn_after, turn_place, turn_unnamed, finds_object, KeepsOrder, MayKeepOrder, CreatesByTurn, CreatesElse, LastsCreation}
 
 closed_test : (spare : Spares) → 0 < length spare.closed → nat_lt 0 (length spare.closed) ≡ true
 closed_test spare some = grind (arith, nat_tests, some)
@@ -75,6 +75,31 @@ creates_unfound old spare who act place result grants new none found creates = g
     go false true is_last is_turn e = absurd (some_not_none (turn_place spare) (sym e ∙ none))
     go false false is_last is_turn e =
         by_tests old spare who act result grants new false false (not_given (nat_lt 0 (length spare.closed)) (is_last_vacant old spare) is_last) (not_given (nat_lt 0 (length spare.closed)) (is_turn_vacant old spare) is_turn) creates
+
+-- ---- in which order the numbers of objects stand after a call
+
+pub found_given : (s : State) (spare : Spares) (place : ℕ) → 0 < length spare.closed → IsFound s spare (Some place) → finds_object s spare ≡ true
+found_given s spare place some found = go (is_last_vacant s spare) (is_turn_vacant s spare) refl refl found
+  where
+    closed : (b : Bool) → (nat_lt 0 (length spare.closed) && b) ≡ b
+    closed b = ap (λ x. x && b) (closed_test spare some)
+
+    go : (last turn : Bool) → is_last_vacant s spare ≡ last → is_turn_vacant s spare ≡ turn → MatchBool last (Some place ≡ Some (length spare.unnamed - 1)) (MatchBool turn (Some place ≡ Some (turn_place spare)) (Some place ≡ None)) → finds_object s spare ≡ true
+    go true turn is_last is_turn e = ap (λ b. b || can_give_turn s spare) (closed (is_last_vacant s spare) ∙ is_last)
+    go false true is_last is_turn e = ap (λ b. b || can_give_turn s spare) (closed (is_last_vacant s spare) ∙ is_last) ∙ (closed (is_turn_vacant s spare) ∙ is_turn)
+    go false false is_last is_turn e = absurd (some_not_none place e)
+
+pub own_order : (s : State) (spare : Option Spares) (call : Call) → MayKeepOrder s call spare spare
+own_order s None call = tt
+own_order s (Some spare) (Call.Act act) = λ creates none room. refl
+own_order s (Some spare) call = tt
+
+pub other_order : (s : State) (old new : Spares) (act : Act) → is_creation act ≡ false → KeepsOrder s (Call.Act act) old new
+other_order s old new act none = λ creates lost room. absurd (true≢false (sym creates ∙ none))
+
+pub no_act_order : (s : State) (old new : Spares) (call : Call) → ((act : Act) → call ≡ Call.Act act → ⊥) → KeepsOrder s call old new
+no_act_order s old new (Call.Act act) none = absurd (none act refl)
+no_act_order s old new call none = tt
 
 -- ---- whose turn it is after a creation
 

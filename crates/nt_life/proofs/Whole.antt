@@ -13,7 +13,7 @@ use Rattle.nt_calls.specs.Moves.{Moves, pended, is_wait}
 use Rattle.nt_calls.specs.Steps.{Called}
 use Rattle.nt_core.specs.Dispatcher.{Dispatcher, state}
 use Rattle.nt_core.specs.Lawful.{IsLawful}
-use Rattle.nt_life.specs.Lasting.{Spares, LastsCall, FindsNone, IsStacked, KeepsPace, LooksAt, Lasts, turn_after}
+use Rattle.nt_life.specs.Lasting.{Spares, LastsCall, FindsNone, IsStacked, KeepsOrder, KeepsPace, LooksAt, Lasts, turn_after}
 use Rattle.nt_life.proofs.Once.{unchanged_by}
 use Rattle.nt_life.proofs.Taken.{call_taken}
 
@@ -28,8 +28,8 @@ own_pace old who made call result grants new same most few moves waits moment = 
 }
 
 -- a call of a dispatcher that gives numbers again
-pub lasts_by : (old : Dispatcher) (spare : Spares) (who : ℕ) (call : Call) (result : Result Reply Refusal) (new : Dispatcher) (after : Spares) → IsLawful old → LastsCall (state old) spare who call result new.grants (state new) → (result ≡ Err HandleLimit → FindsNone (state old) call) → IsStacked call result spare.closed after.closed → after.turn ≡ turn_after (state old) spare call → KeepsPace (state old) who call result new.grants (state new) → LooksAt old who call result new → IsLawful new → Lasts old (Some spare) who call result new (Some after)
-lasts_by old spare who call result new after was_lawful makes limit stacked turned pace looks lawful = record {
+pub lasts_by : (old : Dispatcher) (spare : Spares) (who : ℕ) (call : Call) (result : Result Reply Refusal) (new : Dispatcher) (after : Spares) → IsLawful old → LastsCall (state old) spare who call result new.grants (state new) → (result ≡ Err HandleLimit → FindsNone (state old) call) → IsStacked call result spare.closed after.closed → after.turn ≡ turn_after (state old) spare call → KeepsOrder (state old) call spare after → KeepsPace (state old) who call result new.grants (state new) → LooksAt old who call result new → IsLawful new → Lasts old (Some spare) who call result new (Some after)
+lasts_by old spare who call result new after was_lawful makes limit stacked turned ordered pace looks lawful = record {
   makes = makes;
   limits = record {
     limit = limit;
@@ -38,6 +38,7 @@ lasts_by old spare who call result new after was_lawful makes limit stacked turn
   };
   stacked = stacked;
   turned = turned;
+  ordered = ordered;
   pace = pace;
   unchanged = unchanged_by (state old) (Some spare) who call result new.grants (state new) makes;
   lawful = lawful;
@@ -50,6 +51,7 @@ once_by old who call result new called pace looks lawful = record {
   limits = record { limit = λ limit. tt; taken = tt; looks = looks };
   stacked = (refl, refl);
   turned = (refl, refl);
+  ordered = tt;
   pace = pace;
   unchanged = unchanged_by (state old) None who call result new.grants (state new) called;
   lawful = lawful;

@@ -1,5 +1,5 @@
 -- A dispatcher that lasts: the numbers of closed handles and of objects that are gone are given again, the last that was freed first.
-use Rattle.std.specs.Prelude.{◌≡◌, ◌≤◌, ◌<◌, ◌+◌, ◌-◌, ◌%◌, ◌⊎◌, ℕ, Bool, true, false, not, ◌&&◌, ◌==◌, nat_le, nat_lt, is_none, IfSome, List, [], ◌∷◌, ◌++◌, length, slice_index_or, if◌then◌else◌, MatchBool, OnOk, OnErr}
+use Rattle.std.specs.Prelude.{◌≡◌, ◌≤◌, ◌<◌, ◌+◌, ◌-◌, ◌%◌, ◌⊎◌, ℕ, Bool, true, false, not, ◌&&◌, ◌||◌, ◌==◌, nat_le, nat_lt, is_none, IfSome, List, [], ◌∷◌, ◌++◌, length, slice_index_or, if◌then◌else◌, MatchBool, OnOk, OnErr}
 use Rattle.std.specs.FinMap as map
 use Rattle.std.specs.declared.option.Option.{Option}
 use Rattle.std.specs.declared.option.Option.TheVariants.{None, Some}
@@ -345,6 +345,20 @@ abbrev pub MayTurn : State → Call → Option Spares → Option Spares → Type
 MayTurn s call (Some old) (Some new) = new.turn ≡ turn_after s old call
 MayTurn s call old new = (old ≡ None) × (new ≡ None)
 
+-- a creation finds a handle that was closed, and the number of an object that is gone: the one freed last, or the one whose turn it is
+abbrev pub finds_object : State → Spares → Bool
+finds_object s spare = can_give_last s spare || can_give_turn s spare
+
+-- a creation that finds none leaves the numbers of objects in their order, unless each handle number was handed out
+abbrev pub KeepsOrder : State → Call → Spares → Spares → Type 0
+KeepsOrder s (Call.Act act) old new = is_creation act ≡ true → finds_object s old ≡ false → length s.handles < MAX_HANDLES → new.unnamed ≡ old.unnamed
+KeepsOrder s call old new = Unit {0}
+
+-- the same; if no number is given again, there is none to keep
+abbrev pub MayKeepOrder : State → Call → Option Spares → Option Spares → Type 0
+MayKeepOrder s call (Some old) (Some new) = KeepsOrder s call old new
+MayKeepOrder s call old new = Unit {0}
+
 -- the last number is taken, or none; if no number is given again, there is none before or after
 abbrev pub MayPop : Option Spares → Option Spares → Type 0
 MayPop (Some old) (Some new) = Pops old.closed new.closed
@@ -383,6 +397,7 @@ pub record Lasts (old : Dispatcher) (spare : Option Spares) (who : ℕ) (call : 
   pub limits : KeepsLimits old spare who call result new
   pub stacked : MayStack call result spare after
   pub turned : MayTurn (state old) call spare after
+  pub ordered : MayKeepOrder (state old) call spare after
   pub pace : KeepsPace (state old) who call result new.grants (state new)
   pub unchanged : IsUnchanged (state old) result new.grants (state new)
   pub lawful : IsLawful new

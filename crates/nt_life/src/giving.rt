@@ -1,5 +1,6 @@
 //! Creations, duplicates and closes, and what they do to the spare numbers.
-ghost use Rattle.std.specs.Prelude.{◌≡◌, ◌<◌, ◌↔◌, ◌⊎◌, true, length, slice_index_or, Err, Some, None, ◌++◌, ◌∷◌, [], OnOk, OnErr};
+ghost use Rattle.std.specs.Prelude.{◌≡◌, ◌<◌, ◌↔◌, ◌⊎◌, true, false, length, slice_index_or, Err, Some, None, ◌++◌, ◌∷◌, [], OnOk, OnErr};
+ghost use Rattle.nt_status.specs.declared.limits.TheConstants.{MAX_HANDLES};
 ghost use Rattle.nt_status.specs.declared.refusal.Refusal.TheVariants.{HandleLimit};
 ghost use Rattle.nt_calls.specs.declared.call.Call.{Call};
 ghost use Rattle.nt_calls.specs.declared.call.Act.{Act};
@@ -7,7 +8,7 @@ ghost use Rattle.nt_calls.specs.Steps.{Called};
 ghost use Rattle.nt_core.specs.Dispatcher.{state};
 ghost use Rattle.nt_core.specs.Lawful.{IsLawful};
 ghost use Rattle.nt_core.specs.Renewals.{CreatesAgain};
-ghost use Rattle.nt_life.specs.Lasting.{IsSpare, MaySpare, LooksAt, gives, is_numbered, NoHandle, NoObject, CreatesElse, LastsCreation, LastsDuplicate, KeepsPace, is_creation, is_unnamed, HasSpare, IsClosedLast, LacksOnlyNumbers, CreatesAtLimit, LeavesSpare, TakesNumbers, turn_after, Lasts};
+ghost use Rattle.nt_life.specs.Lasting.{IsSpare, MaySpare, LooksAt, gives, is_numbered, NoHandle, NoObject, CreatesElse, LastsCreation, LastsDuplicate, KeepsPace, is_creation, is_unnamed, HasSpare, IsClosedLast, LacksOnlyNumbers, CreatesAtLimit, LeavesSpare, TakesNumbers, turn_after, finds_object, Lasts};
 ghost use Rattle.nt_life.specs.declared.renewal.Renewal.TheVariants.{Create};
 ghost use Rattle.nt_life.specs.Renewals.{Tells};
 
@@ -112,6 +113,7 @@ fn create_new(
     ensures limit { result ≡ Err HandleLimit → NoHandle (state core.old) ⊎ NoObject (state core.old) }
     ensures takes { TakesNumbers core.old spare.old who (Call.Act act.now) result core.new spare.new }
     ensures turn { spare.new.turn ≡ spare.old.turn }
+    ensures ordered { length (state core.old).handles < MAX_HANDLES → spare.new.unnamed ≡ spare.old.unnamed }
 {
     let answer = core.call(who, call);
     if !is_limit(&answer) {
@@ -141,6 +143,8 @@ fn create(
     ensures limit { result ≡ Err HandleLimit → NoHandle (state core.old) ⊎ NoObject (state core.old) }
     ensures takes { TakesNumbers core.old spare.old who (Call.Act act.now) result core.new spare.new }
     ensures turned { spare.new.turn ≡ turn_after (state core.old) spare.old (Call.Act act.now) }
+    ensures ordered { finds_object (state core.old) spare.old ≡ false → length (state core.old).handles < MAX_HANDLES
+        → spare.new.unnamed ≡ spare.old.unnamed }
 {
     let Some(handle) = spare.handle() else {
         return create_new(core, spare, who, act, call, told);

@@ -11,7 +11,7 @@ ghost use Rattle.nt_calls.specs.declared.call.Call.{Call};
 ghost use Rattle.nt_calls.specs.declared.call.WaitCall.{WaitCall};
 ghost use Rattle.nt_core.specs.Dispatcher.{state};
 ghost use Rattle.nt_core.specs.Lawful.{IsLawful};
-ghost use Rattle.nt_life.specs.Lasting.{MaySpare, MayBegin, KeepsPace, LooksAt, KeepsClosed, GivesFromNow, gives, MayBeginThis, MayPop, MaySetAside, no_spares, MakesCall, KeepsLimits, MayStack, MayTurn, IsUnchanged};
+ghost use Rattle.nt_life.specs.Lasting.{MaySpare, MayBegin, KeepsPace, LooksAt, KeepsClosed, GivesFromNow, gives, MayBeginThis, MayPop, MaySetAside, no_spares, MakesCall, KeepsLimits, MayStack, MayTurn, MayKeepOrder, IsUnchanged};
 ghost use Rattle.nt_life.specs.Renewals.{Tells};
 
 use crate::beginning::{begin_this_with, begin_with};
@@ -122,6 +122,7 @@ impl Lasting {
         ensures limits { KeepsLimits self.old.core self.old.spare who call.now result self.new.core }
         ensures stacked { MayStack call.now result self.old.spare self.new.spare }
         ensures turned { MayTurn (state self.old.core) call.now self.old.spare self.new.spare }
+        ensures ordered { MayKeepOrder (state self.old.core) call.now self.old.spare self.new.spare }
         ensures pace { KeepsPace (state self.old.core) who call.now result self.new.core.grants (state self.new.core) }
         ensures unchanged { IsUnchanged (state self.old.core) result self.new.core.grants (state self.new.core) }
         ensures lawful { IsLawful self.new.core }
@@ -147,6 +148,7 @@ impl Lasting {
         ensures limits { KeepsLimits self.old.core self.old.spare who call.now result self.new.core }
         ensures stacked { MayStack call.now result self.old.spare self.new.spare }
         ensures turned { MayTurn (state self.old.core) call.now self.old.spare self.new.spare }
+        ensures ordered { MayKeepOrder (state self.old.core) call.now self.old.spare self.new.spare }
         ensures pace { KeepsPace (state self.old.core) who call.now result self.new.core.grants (state self.new.core) }
         ensures unchanged { IsUnchanged (state self.old.core) result self.new.core.grants (state self.new.core) }
         ensures lawful { IsLawful self.new.core }

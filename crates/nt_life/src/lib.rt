@@ -36,6 +36,7 @@ mod begun;
 mod from_now;
 mod giving;
 mod lasting;
+mod laws;
 mod listing;
 mod renewal;
 mod set_aside;
@@ -44,4 +45,5 @@ mod stack;
 
 pub use begun::Begun;
 pub use lasting::Lasting;
+pub use laws::numbers_come_back;
 pub use renewal::Renewal;

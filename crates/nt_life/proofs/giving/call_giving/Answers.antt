@@ -8,7 +8,7 @@ use Rattle.nt_life.proofs.Choosing.{no_act_lasts, no_act_full}
 use Rattle.nt_life.proofs.Whole.{lasts_by, own_pace}
 use Rattle.nt_life.proofs.Stacking.{stacked_by}
 use Rattle.nt_life.proofs.Telling.{tells_own}
-use Rattle.nt_life.proofs.Turning.{no_act_turns}
+use Rattle.nt_life.proofs.Turning.{no_act_turns, no_act_order}
 use Rattle.nt_life.proofs.giving.call_giving.Goals as goal
 
 pub returns-in-Act-clause-lasts : goal.returns-in-Act-clause-lasts
@@ -29,6 +29,7 @@ returns-in_default c =
           (λ limit. absurd (no_act_full old call c.in_default.not-Act (refused_full old c.args.who call c.call.result c.call.new.self.grants new made.called limit)))
           (stacked_by call c.call.result c.args.spare.now.closed c.args.spare.now.closed (no_act_closes call c.in_default.not-Act) (inl refl))
           (no_act_turns old c.args.spare.now call c.in_default.not-Act)
+          (no_act_order old c.args.spare.now c.args.spare.now call c.in_default.not-Act)
           (own_pace old c.args.who call call c.call.result c.call.new.self.grants new refl made.most made.few made.moves made.waits made.moment)
           (record { local = made.local; untested = made.untested })
           made.lawful;

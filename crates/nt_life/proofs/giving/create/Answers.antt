@@ -1,4 +1,5 @@
 use Rattle.std.proofs.Common.{◌≡◌, ◌∙◌, ℕ, List, get_or, refl, sym, ap, subst, None}
+use Rattle.std.proofs.lemmas.Bool.{true≢false}
 use Rattle.nt_core.specs.Dispatcher.{Dispatcher, state}
 use Rattle.nt_core.specs.Renewals.{CreatesAgain}
 use Rattle.nt_life.specs.Lasting.{Spares, CreatesElse, HasSpare, IsClosedLast, LeavesSpare, Pops, times}
@@ -6,7 +7,7 @@ use Rattle.nt_life.proofs.Limits.{again_limit}
 use Rattle.nt_life.proofs.Looking.{created_nobody, creation_looks}
 use Rattle.nt_life.proofs.Pacing.{created_pace}
 use Rattle.nt_life.proofs.Telling.{tells_created}
-use Rattle.nt_life.proofs.Turning.{creates_found, creates_unfound, turns_closed}
+use Rattle.nt_life.proofs.Turning.{creates_found, creates_unfound, found_given, turns_closed}
 use Rattle.nt_life.proofs.giving.create.Goals as goal
 
 -- the same numbers are spare, whosever turn it is
@@ -52,6 +53,12 @@ returns-in_default-vacant-clause-turned c =
 pub returns-clause-turned : goal.returns-clause-turned
 returns-clause-turned c =
     turns_closed (state c.args.core.now) c.args.spare.now c.create_at.new.spare c.args.act.now c.requires.creates c.in-Some.ensures.some.0 (c.create_at.ensures.turn ∙ c.vacant.ensures.turn)
+
+pub returns-in_default-vacant-clause-ordered : goal.returns-in_default-vacant-clause-ordered
+returns-in_default-vacant-clause-ordered c = λ none room. c.create_new-in_default-vacant.ensures.ordered room ∙ c.vacant.ensures.unnamed
+
+pub returns-clause-ordered : goal.returns-clause-ordered
+returns-clause-ordered c = λ none room. absurd (true≢false (sym (found_given (state c.args.core.now) c.args.spare.now c.in-Some-vacant.place c.in-Some.ensures.some.0 c.in-Some-vacant.ensures.which) ∙ none))
 
 pub returns-clause-takes : goal.returns-clause-takes
 returns-clause-takes c = record {

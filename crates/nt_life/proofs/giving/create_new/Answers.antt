@@ -1,6 +1,6 @@
 use Rattle.nt_life.specs.Lasting.{IsSpare, LacksOnlyNumbers}
 use Rattle.nt_life.proofs.Whole.{own_pace}
-use Rattle.std.proofs.Common.{◌∙◌, ◌⊎◌, sym, ap, subst, inl, inr, refl}
+use Rattle.std.proofs.Common.{◌∙◌, ◌⊎◌, arith, sym, ap, subst, inl, inr, refl}
 use Rattle.nt_calls.specs.declared.call.Call.{Call}
 use Rattle.nt_calls.specs.State.{State}
 use Rattle.nt_calls.specs.Steps.{Called}
@@ -82,6 +82,11 @@ returns-in-Some-clause-takes c =
           (more_nobody (state c.call-answer.new.self) c.args.spare.now c.args.who c.args.act.now c.create_more.result c.create_more.new.core.grants (state c.create_more.new.core) c.create_more.ensures.created);
       leaves = c.create_more.ensures.leaves;
     }
+
+pub returns-in-Some-clause-ordered : goal.returns-in-Some-clause-ordered
+returns-in-Some-clause-ordered c = λ room.
+    let full = (refused_full (state c.args.core.now) c.args.who c.args.call.now c.call-answer.result c.call-answer.new.self.grants (state c.call-answer.new.self) c.call-answer.ensures.called (c.is_limit.ensures.0 c.if-not-is_limit.false)).handles in
+    absurd (omega (arith, full, room))
 
 pub create_more-requires-clause-has : goal.create_more-requires-clause-has
 create_more-requires-clause-has c =

@@ -12,7 +12,7 @@ use Rattle.nt_life.proofs.Looking.{own_looks}
 use Rattle.nt_life.proofs.Stacking.{stacked_by, stacked_close}
 use Rattle.nt_life.proofs.Whole.{lasts_by, own_pace}
 use Rattle.nt_life.proofs.Telling.{tells_own}
-use Rattle.nt_life.proofs.Turning.{creation_turns}
+use Rattle.nt_life.proofs.Turning.{creation_turns, other_order}
 use Rattle.nt_life.proofs.giving.make_act.Goals as goal
 
 pub returns-then-is_creation : goal.returns-then-is_creation
@@ -27,6 +27,7 @@ returns-then-is_creation c =
           (λ limit. creation_finds (state c.args.core.now) c.args.act.now creates (made.limit limit))
           (stacked_by (Call.Act c.args.act.now) c.create.result c.args.spare.now.closed c.create.new.spare.closed (creation_closes c.args.act.now creates) made.takes.leaves.stacked)
           made.turned
+          (λ _. made.ordered)
           made.takes.pace made.takes.looks made.takes.leaves.lawful;
       spare = made.takes.leaves.spare;
     }
@@ -47,6 +48,7 @@ returns-else-is_creation c =
           (λ limit. absurd (other_full old c.args.act.now c.in_default.not-Duplicate other (refused_full old c.args.who call c.call.result c.call.new.self.grants new called limit)))
           (stacked_by call c.call.result c.args.spare.now.closed c.args.spare.now.closed (act_closes c.args.act.now c.in_default.not-Close) (inl refl))
           (creation_turns old c.args.spare.now c.args.act.now c.args.spare.now.turn other refl)
+          (other_order old c.args.spare.now c.args.spare.now c.args.act.now other)
           (own_pace old c.args.who c.args.call.now call c.call.result c.call.new.self.grants new c.requires.act made.most made.few made.moves made.waits made.moment)
           (own_looks c.args.core.now c.call.new.self c.args.who c.args.call.now call c.call.result c.requires.act made.local made.untested)
           made.lawful;
@@ -72,6 +74,7 @@ returns-in-Close-clause-lasts c =
     (λ limit. absurd (other_full old (Act.Close c.in-Close.handle) (λ source access is. (cc)) refl (refused_full old c.args.who call c.close.result c.close.new.core.grants new called limit)))
     (stacked_close c.in-Close.handle c.close.result c.args.spare.now.closed c.close.new.spare.closed made.stacked made.kept)
     made.turn
+    (other_order old c.args.spare.now c.close.new.spare (Act.Close c.in-Close.handle) refl)
     made.pace
     (subst (λ (call : Call). LooksAt c.args.core.now c.args.who call c.close.result c.close.new.core) same made.looks)
     made.has.lawful)
@@ -82,4 +85,6 @@ returns-in-Duplicate-clause-lasts c =
     let call = Call.Act (Act.Duplicate c.in-Duplicate.handle c.in-Duplicate.access) in
     subst (λ (act : Act). Lasts c.args.core.now (Some c.args.spare.now) c.args.who (Call.Act act) c.duplicate.result c.duplicate.new.core (Some c.duplicate.new.spare)) (sym c.in-Duplicate.is)
     (lasts_by c.args.core.now c.args.spare.now c.args.who call c.duplicate.result c.duplicate.new.core c.duplicate.new.spare c.requires.has.lawful
-    made.duplicated made.limit made.takes.leaves.stacked made.turn made.takes.pace made.takes.looks made.takes.leaves.lawful)
+    made.duplicated made.limit made.takes.leaves.stacked made.turn
+    (other_order (state c.args.core.now) c.args.spare.now c.duplicate.new.spare (Act.Duplicate c.in-Duplicate.handle c.in-Duplicate.access) refl)
+    made.takes.pace made.takes.looks made.takes.leaves.lawful)

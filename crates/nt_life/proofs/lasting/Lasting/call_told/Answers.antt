@@ -1,7 +1,8 @@
 use Rattle.std.proofs.Common.{sym, subst}
 use Rattle.nt_core.specs.Dispatcher.{state}
-use Rattle.nt_life.specs.Lasting.{WithSpare, KeepsLimits}
+use Rattle.nt_life.specs.Lasting.{WithSpare, KeepsLimits, MayKeepOrder}
 use Rattle.nt_life.proofs.Once.{own_call}
+use Rattle.nt_life.proofs.Turning.{own_order}
 use Rattle.nt_life.proofs.lasting.Lasting.call_told.Goals as goal
 
 pub invariant_of-self : goal.invariant_of-self
@@ -17,3 +18,7 @@ returns-then-not-gives-clause-limits c =
     let own = own_call old c.self.inside.spare c.args.who c.args.call.now c.call.result c.call.new.self.grants new (sym c.if-not-gives.ensures) c.self.invariant.0.steady.sound.handles.enough made.moves.threads c.self.invariant.1 made.called in
     subst (λ (life : WithSpare). KeepsLimits life.core life.spare c.args.who c.args.call.now c.call.result c.call.new.self) c.self.view_is
     (record { limit = own.limit; taken = own.taken; looks = record { local = made.local; untested = made.untested } })
+
+pub returns-then-not-gives-clause-ordered : goal.returns-then-not-gives-clause-ordered
+returns-then-not-gives-clause-ordered c =
+    subst (λ (life : WithSpare). MayKeepOrder (state life.core) c.args.call.now life.spare c.self.inside.spare) c.self.view_is (own_order (state c.self.inside.core) c.self.inside.spare c.args.call.now)
