@@ -10,7 +10,7 @@ use Rattle.nt_explore.specs.declared.met.Entry.{Entry}
 use Rattle.nt_explore.specs.declared.loss.Edge.{Edge}
 use Rattle.nt_explore.specs.declared.explored.Verdict.{Verdict}
 use Rattle.nt_explore.specs.declared.explored.Verdict.TheVariants as verdict
-use Rattle.nt_explore.specs.Search.{beginning, IsOneIf, SumsTo, CountsTo, CanGo, TellsBound, Learns}
+use Rattle.nt_explore.specs.Search.{beginning, AreDistinct, IsOneIf, SumsTo, CountsTo, CanGo, TellsBound, Learns}
 use Rattle.nt_explore.specs.Walk.{Tries}
 use Rattle.nt_explore.specs.Levels.{AreLooked, AreMet, LiesAt, then_met, one_more_if, IsFirst}
 use Rattle.nt_explore.proofs.Ways.{order_of}
@@ -61,6 +61,7 @@ met_begins plan s = record {
     more = λ i below. absurd (omega (arith, below));
     leads = λ i lane q below. absurd (omega (arith, below));
     came = λ i j below. absurd (omega (arith, below));
+    once = λ i j first below. absurd (omega (arith, first, below));
   };
   counts = record { of_states = refl; of_steps = refl; of_hangs = refl };
   low = λ i below. omega arith;
@@ -78,6 +79,7 @@ met_more plan start old new pairs pairs' looked hangs hangs' hung point met with
     more = λ i below. more i (below_or i looked below);
     leads = λ i lane q below goes. leads i lane q goes (below_or i looked below);
     came = λ i j below past under. came i j past under (below_or i looked below);
+    once = subst (AreDistinct tries.points) (sym (after (looked + 1) (omega arith))) tries.grows.walk.differ;
   };
   counts = record {
     of_states = sym (after (looked + 1) (omega arith));

@@ -12,10 +12,11 @@ use Rattle.nt_objects.specs.Object.{owned_by, has_ended, is_thread}
 use Rattle.nt_waits.specs.declared.wait.Wait.{Wait}
 use Rattle.nt_waits.specs.Waits.{Names}
 use Rattle.nt_calls.specs.State.{State, object_at, pends}
-use Rattle.nt_calls.specs.Living.{runs, is_opened}
+use Rattle.nt_status.specs.Access.{modify_state}
+use Rattle.nt_calls.specs.Living.{runs}
 use Rattle.nt_core.specs.Dispatcher.{Dispatcher, state}
 use Rattle.nt_core.specs.Lawful.{IsLawful}
-use Rattle.nt_look.specs.Hangs.{holds, held_at, is_held, IsTied, IsKnot, IsStuck, IsGreatestKnot, marked, unmarked}
+use Rattle.nt_look.specs.Hangs.{is_given, holds, held_at, is_held, IsTied, IsKnot, IsStuck, IsGreatestKnot, marked, unmarked}
 use Rattle.nt_look.specs.Orders.{Plan, Point, Hangs, goes_on}
 
 and_first : (a b : Bool) → (a && b) ≡ true → a ≡ true
@@ -124,7 +125,7 @@ knot_only d f g knot lawful owners same tied t has calls = record {
     here : (o : ℕ) → Names old.wait o → held_at (state d) knot t o ≡ true → held_at (state d) (only d.threads knot) t o ≡ true
     here o named h =
         let known = ((lawful.steady.sound.waits t old.wait old.pends).named o named).0 in
-        holds_only d.threads knot (not (is_opened (state d) o)) t o (object_at d.objects o) (λ u owns. owners u o owns) (λ thread runs. go thread runs known (ltb o d.threads) refl) h
+        holds_only d.threads knot (not (is_given (state d) modify_state o)) t o (object_at d.objects o) (λ u owns. owners u o owns) (λ thread runs. go thread runs known (ltb o d.threads) refl) h
       where
         go : is_thread (object_at d.objects o) ≡ true → has_ended (object_at d.objects o) ≡ false → o < length d.objects → (b : Bool) → ltb o d.threads ≡ b → o < d.threads
         go thread runs known true e = grind (arith, nat_tests, e)

@@ -1,6 +1,6 @@
 -- What a search has come to, level by level.
-use Rattle.std.proofs.Common.{mul_comm, ◌≡◌, ◌<◌, ◌≤◌, ℕ, zero, suc, ◌+◌, ◌*◌, ◌-◌, Contains, Bool, true, false, List, [], ◌∷◌, length, refl, sym, ap, ◌∙◌, subst, arith, Option, Some, None, ltb, inl, inr, ◌⊎◌}
-use Rattle.std.specs.Prelude.{replicate, reverse, ◌↔◌}
+use Rattle.std.proofs.Common.{mul_comm, ◌≡◌, ◌<◌, ◌≤◌, ℕ, ◌+◌, ◌*◌, ◌-◌, Contains, Bool, true, false, List, [], ◌∷◌, length, refl, sym, ap, ◌∙◌, subst, arith, Option, Some, None, ltb, inl, inr, ◌⊎◌}
+use Rattle.std.specs.Prelude.{reverse, ◌↔◌}
 use Rattle.std.proofs.lemmas.Bool.{false≢true}
 use Rattle.std.proofs.lemmas.Bool.Decides.{nat_tests}
 use Rattle.std.proofs.lemmas.List.{length-replicate, length-reverse}
@@ -12,20 +12,16 @@ use Rattle.nt_look.specs.Orders.{Plan, Point, Goes, Order, Hangs, IsLost, NoneHa
 use Rattle.nt_look.proofs.Searching.{steps_counted, lane_there}
 use Rattle.nt_explore.specs.declared.met.Entry.{Entry}
 use Rattle.nt_explore.specs.Search.{beginning}
-use Rattle.nt_explore.specs.Walk.{parent_of, lane_of, AreBehind, IsWalk, HasPoint, Tries, Arrives}
+use Rattle.nt_explore.specs.Walk.{parent_of, lane_of, IsWalk, HasPoint, Tries, Arrives}
 use Rattle.nt_explore.specs.declared.loss.Edge.{Edge}
 use Rattle.nt_explore.specs.declared.loss.Edges.{Edges}
 use Rattle.nt_explore.specs.Levels.{IsFirst, AreLooked, AreEdges, IsEdge, IsRow, IsColumn, IsFirstMark, IsFirstLost, IsFirstLoss, IsLostThere, IsSearch, AreMet, IsCounted, first_then, passed}
 use Rattle.nt_explore.proofs.Losing.{below_or, AreOnward, lost_forth, lost_back, passed_tells, length_passed}
-use Rattle.nt_explore.proofs.Walks.{deeper, goes_wide, one_entry}
+use Rattle.nt_explore.proofs.Walks.{deeper, goes_wide, one_entry, steps_none}
 use Rattle.nt_explore.proofs.Ways.{order_of}
 use Rattle.nt_explore.proofs.Counting.{met_begins}
 
 -- ---- the start
-
-steps_none : (n : ℕ) → steps (replicate n 0) ≡ 0
-steps_none zero = refl
-steps_none (suc n) = let rest = steps_none n in omega (arith, rest)
 
 pub begins_wide : (plan : Plan) (s : State) → length (beginning plan s).at ≡ length plan
 begins_wide plan s = length-replicate (length plan) 0
@@ -38,6 +34,8 @@ begins plan s = record {
     behind = λ i some below. absurd (omega (arith, some, below));
     wide = λ i below. begins_wide plan s;
     came = λ i some below. absurd (omega (arith, some, below));
+    hashed = λ i some below. absurd (omega (arith, some, below));
+    differ = λ i j first below. absurd (omega (arith, first, below));
   };
   within = omega arith;
   rising = λ i j before below. omega arith;
@@ -324,9 +322,6 @@ bound_there plan s entries edges looked level way some more is came search =
     let before = walk.behind looked some more in
     let one = deeper plan (point (parent_of entries looked)) (point looked) (lane_of entries looked) (walk.wide (parent_of entries looked) (omega (arith, before, more))) (walk.came looked some more) in
     none_within plan s entries looked level point search.1 more (omega (arith, deep, count, one, is))
-
-pub behind_one : AreBehind one_entry
-behind_one i some below = absurd (omega (arith, some, below))
 
 -- ---- since when a wait was lost
 

@@ -7,3 +7,5 @@ pub mod Counting
 pub mod Hung
 pub mod Adding
 pub mod Queues
+pub mod Hashes
+pub mod Slots

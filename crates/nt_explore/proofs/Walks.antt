@@ -1,13 +1,15 @@
 -- How the table grows.
-use Rattle.std.proofs.Common.{◌≡◌, ◌≢◌, ◌<◌, ◌≤◌, ℕ, suc, ◌+◌, Bool, true, false, List, [], ◌∷◌, ◌++◌, length, refl, sym, ap, ◌∙◌, subst, arith, Option, Some, None, eqb, ltb, if◌then◌else◌, inl, inr, ◌⊎◌}
-use Rattle.std.specs.Prelude.{Result, Ok, Err, IfOk, OnOk}
+use Rattle.std.proofs.Common.{◌≡◌, ◌≢◌, ◌<◌, ◌≤◌, ℕ, zero, suc, ◌+◌, Bool, true, false, List, [], ◌∷◌, ◌++◌, length, refl, sym, ap, ◌∙◌, subst, arith, Option, Some, None, eqb, ltb, if◌then◌else◌, inl, inr, ◌⊎◌}
+use Rattle.std.specs.Prelude.{Result, Ok, Err, IfOk, OnOk, replicate}
 use Rattle.std.proofs.lemmas.Bool.Decides.{nat_tests}
 use Rattle.std.proofs.lemmas.List.{length-set, length_push, get_or_push, get_or_append_left}
 use Rattle.nt_look.specs.Orders.{Plan, Point, Goes, steps, place}
 use Rattle.nt_look.proofs.Searching.{steps_counted}
 use Rattle.nt_explore.specs.declared.met.Entry.{Entry}
-use Rattle.nt_explore.specs.Walk.{no_entry, parent_of, lane_of, AreBehind, IsWalk, HasPoint, IsFound, Meets, TriesLane, Tries, CanGoTo, edge, Went, LeadsTo}
-use Rattle.nt_explore.specs.Search.{CanGo, IsOneIf, SumsTo}
+use Rattle.nt_explore.specs.Walk.{no_entry, parent_of, lane_of, hash_at, AreBehind, IsWalk, HasPoint, IsFound, Meets, TriesLane, Tries, CanGoTo, edge, Went, LeadsTo}
+use Rattle.nt_calls.specs.State.{State}
+use Rattle.nt_explore.specs.Search.{beginning, CanGo, IsOneIf, SumsTo}
+use Rattle.nt_explore.specs.Hash.{hash_of}
 use Rattle.nt_explore.specs.declared.loss.Edge.{Edge}
 use Rattle.nt_explore.proofs.Losing.{below_or, leads_on, leads_none, leads_then}
 use Rattle.nt_explore.proofs.Unique.{goes_same}
@@ -38,18 +40,33 @@ behind_more entries e before behind i some below = go (below_or i (length entrie
 pub goes_wide : (plan : Plan) (old : Point) (lane : ℕ) (new : Point) → Goes plan old lane new → length old.at ≡ length plan → length new.at ≡ length plan
 goes_wide plan old lane new goes wide = ap (λ (ns : List ℕ). length ns) goes.at ∙ (length-set old.at lane (place old lane + 1) ∙ wide)
 
+pub deeper : (plan : Plan) (p q : Point) (lane : ℕ) → length p.at ≡ length plan → Goes plan p lane q → steps q.at ≡ steps p.at + 1
+deeper plan p q lane wide goes = steps_counted plan (lane ∷ []) p q wide (q, goes, refl)
+
 goes_at : (plan : Plan) (a b : Point) (l m : ℕ) (p q : Point) → a ≡ b → l ≡ m → p ≡ q → Goes plan a l p → Goes plan b m q
 goes_at plan a b l m p q e f g goes = subst (λ (z : Point). Goes plan b m z) g (subst (λ (k : ℕ). Goes plan b k p) f (subst (λ (z : Point). Goes plan z l p) e goes))
 
-walk_more : (plan : Plan) (start : Point) (entries : List Entry) (e : Entry) (p : Point) (point : ℕ → Point) → IsWalk plan start entries point → e.parent < length entries → Goes plan (point e.parent) e.lane p → IsWalk plan start (entries ++ e ∷ []) (put point (length entries) p)
-walk_more plan start entries e p point walk before goes = record {
+walk_more : (plan : Plan) (start : Point) (entries : List Entry) (e : Entry) (p : Point) (point : ℕ → Point) → IsWalk plan start entries point → e.parent < length entries → Goes plan (point e.parent) e.lane p → e.hash ≡ hash_of p → ((i : ℕ) → i < length entries → point i ≢ p) → IsWalk plan start (entries ++ e ∷ []) (put point (length entries) p)
+walk_more plan start entries e p point walk before goes hash fresh = record {
   some = let count = length_push entries e in omega (arith, count);
   first = put_below point (length entries) p 0 walk.some ∙ walk.first;
   behind = behind_more entries e before walk.behind;
   wide = λ i below. wide i (below_or i (length entries) (let count = length_push entries e in omega (arith, below, count)));
   came = λ i some below. came i some (below_or i (length entries) (let count = length_push entries e in omega (arith, below, count)));
+  hashed = λ i some below. hashed i some (below_or i (length entries) (let count = length_push entries e in omega (arith, below, count)));
+  differ = λ i j first below. differ i j first (below_or j (length entries) (let count = length_push entries e in omega (arith, below, count)));
 }
   where
+    hashed : (i : ℕ) → 0 < i → (i < length entries) ⊎ (i ≡ length entries) → hash_at (entries ++ e ∷ []) i ≡ hash_of (put point (length entries) p i)
+    hashed i some (inl inside) = ap (λ (x : Entry). x.hash) (get_or_append_left entries (e ∷ []) no_entry i inside) ∙ (walk.hashed i some inside ∙ ap hash_of (sym (put_below point (length entries) p i inside)))
+    hashed i some (inr last) = ap (λ (x : Entry). x.hash) (get_or_push entries e no_entry i (sym last)) ∙ (hash ∙ ap hash_of (sym (ap (put point (length entries) p) last ∙ put_here point (length entries) p)))
+
+    differ : (i j : ℕ) → i < j → (j < length entries) ⊎ (j ≡ length entries) → put point (length entries) p i ≢ put point (length entries) p j
+    differ i j first (inl inside) = λ same. walk.differ i j first inside (sym (put_below point (length entries) p i (omega (arith, first, inside))) ∙ (same ∙ put_below point (length entries) p j inside))
+    differ i j first (inr last) = λ same.
+        let inside : i < length entries = omega (arith, first, last) in
+        fresh i inside (sym (put_below point (length entries) p i inside) ∙ (same ∙ (ap (put point (length entries) p) last ∙ put_here point (length entries) p)))
+
     wide : (i : ℕ) → (i < length entries) ⊎ (i ≡ length entries) → length (put point (length entries) p i).at ≡ length plan
     wide i (inl inside) = ap (λ (z : Point). length z.at) (put_below point (length entries) p i inside) ∙ walk.wide i inside
     wide i (inr last) = ap (λ (n : ℕ). length (put point (length entries) p n).at) last ∙ (ap (λ (z : Point). length z.at) (put_here point (length entries) p) ∙ goes_wide plan (point e.parent) e.lane p goes (walk.wide e.parent before))
@@ -75,12 +92,22 @@ walk_more plan start entries e p point walk before goes = record {
         (sym (ap (put point (length entries) p) last ∙ put_here point (length entries) p))
         goes
 
-pub meets_new : (plan : Plan) (start : Point) (entries : List Entry) (e : Entry) (p : Point) (j : ℕ) (point : ℕ → Point) → e.parent < length entries → j ≡ length entries → IsWalk plan start entries point → Goes plan (point e.parent) e.lane p → Meets plan start entries (entries ++ e ∷ []) p j point
-meets_new plan start entries e p j point before last walk goes =
+-- the start is met by no lane, and of the others none with the hash is the point
+never_met : (plan : Plan) (start : Point) (entries : List Entry) (e : Entry) (p : Point) (point : ℕ → Point) → steps start.at ≡ 0 → e.parent < length entries → IsWalk plan start entries point → Goes plan (point e.parent) e.lane p → e.hash ≡ hash_of p → IsFound plan start entries e.hash p None → (i : ℕ) → i < length entries → point i ≢ p
+never_met plan start entries e p point low before walk goes hash none zero below is =
+    let deep = deeper plan (point e.parent) p e.lane (walk.wide e.parent before) goes in
+    let none' = ap (λ (z : Point). steps z.at) (sym walk.first ∙ is) in
+    absurd (omega (arith, low, deep, none'))
+never_met plan start entries e p point low before walk goes hash none (suc i) below is =
+    let some : 0 < suc i = omega arith in
+    none (suc i) some below (walk.hashed (suc i) some below ∙ (ap hash_of is ∙ sym hash)) point walk is
+
+pub meets_new : (plan : Plan) (start : Point) (entries : List Entry) (e : Entry) (p : Point) (j : ℕ) (point : ℕ → Point) → steps start.at ≡ 0 → e.parent < length entries → j ≡ length entries → e.hash ≡ hash_of p → IsFound plan start entries e.hash p None → IsWalk plan start entries point → Goes plan (point e.parent) e.lane p → Meets plan start entries (entries ++ e ∷ []) p j point
+meets_new plan start entries e p j point low before last hash none walk goes =
     let count = length_push entries e in
     record {
       points = put point (length entries) p;
-      grows = record { walk = walk_more plan start entries e p point walk before goes; longer = omega (arith, count); same = λ i below. put_below point (length entries) p i below };
+      grows = record { walk = walk_more plan start entries e p point walk before goes hash (never_met plan start entries e p point low before walk goes hash none); longer = omega (arith, count); same = λ i below. put_below point (length entries) p i below };
       there = omega (arith, count, last);
       is = ap (put point (length entries) p) last ∙ put_here point (length entries) p;
       deep = λ i past below. let here : i ≡ length entries = omega (arith, past, below, count) in ap (put point (length entries) p) here ∙ put_here point (length entries) p;
@@ -88,8 +115,8 @@ meets_new plan start entries e p j point before last walk goes =
 
 -- ---- a point that is there
 
-pub meets_old : (plan : Plan) (start : Point) (entries : List Entry) (p : Point) (j : ℕ) (point : ℕ → Point) → IsFound plan start entries p (Some j) → IsWalk plan start entries point → Meets plan start entries entries p j point
-meets_old plan start entries p j point found walk = record {
+pub meets_old : (plan : Plan) (start : Point) (entries : List Entry) (hash : ℕ) (p : Point) (j : ℕ) (point : ℕ → Point) → IsFound plan start entries hash p (Some j) → IsWalk plan start entries point → Meets plan start entries entries p j point
+meets_old plan start entries hash p j point found walk = record {
   points = point;
   grows = record { walk = walk; longer = omega arith; same = λ i below. refl };
   there = found.0;
@@ -101,9 +128,6 @@ meets_old plan start entries p j point found walk = record {
 
 pub sums_on : (is : ℕ → ℕ → Type 0) (n before last sum : ℕ) → SumsTo is n before → is n last → sum ≡ before + last → SumsTo is (n + 1) sum
 sums_on is n before last sum old here total = let more : suc n ≡ n + 1 = omega arith in subst (λ (k : ℕ). SumsTo is k sum) more (before, last, old, here, total)
-
-pub deeper : (plan : Plan) (p q : Point) (lane : ℕ) → length p.at ≡ length plan → Goes plan p lane q → steps q.at ≡ steps p.at + 1
-deeper plan p q lane wide goes = steps_counted plan (lane ∷ []) p q wide (q, goes, refl)
 
 pub lane_went : (plan : Plan) (start : Point) (old new : List Entry) (pairs : List Edge) (p next : Point) (index lane j : ℕ) (point : ℕ → Point) → length p.at ≡ length plan → Goes plan p lane next → Meets plan start old new next j point → TriesLane plan start old new pairs (pairs ++ edge index j ∷ []) p index lane point
 lane_went plan start old new pairs p next index lane j point wide goes meets = record {
@@ -180,17 +204,28 @@ tries_more plan start old mid new first halfway last p lanes index point within 
 
 -- ---- the start alone
 
+pub steps_none : (n : ℕ) → steps (replicate n 0) ≡ 0
+steps_none zero = refl
+steps_none (suc n) = let rest = steps_none n in omega (arith, rest)
+
+-- no step leads to it
+pub start_low : (plan : Plan) (s : State) → steps (beginning plan s).at ≡ 0
+start_low plan s = steps_none (length plan)
+
 abbrev pub one_entry : List Entry
 one_entry = no_entry ∷ []
 
 -- ---- what was met
 
-pub meets_added : {E : Type 0} (plan : Plan) (start : Point) (old new : List Entry) (e : Entry) (p : Point) (r : Result ℕ E) → e.parent < length old → IfOk r (λ j. j ≡ length old) → OnOk r (new ≡ old ++ e ∷ []) → IfOk r (λ j. (point : ℕ → Point) → IsWalk plan start old point → Goes plan (point e.parent) e.lane p → Meets plan start old new p j point)
-meets_added plan start old new e p (Ok j) before last added = λ point walk goes. subst (λ (es : List Entry). Meets plan start old es p j point) (sym added) (meets_new plan start old e p j point before last walk goes)
-meets_added plan start old new e p (Err x) before last added = tt
+pub meets_added : {E : Type 0} (plan : Plan) (start : Point) (old new : List Entry) (e : Entry) (p : Point) (r : Result ℕ E) → steps start.at ≡ 0 → e.parent < length old → e.hash ≡ hash_of p → IsFound plan start old e.hash p None → IfOk r (λ j. j ≡ length old) → OnOk r (new ≡ old ++ e ∷ []) → IfOk r (λ j. (point : ℕ → Point) → IsWalk plan start old point → Goes plan (point e.parent) e.lane p → Meets plan start old new p j point)
+meets_added plan start old new e p (Ok j) low before hash none last added = λ point walk goes. subst (λ (es : List Entry). Meets plan start old es p j point) (sym added) (meets_new plan start old e p j point low before last hash none walk goes)
+meets_added plan start old new e p (Err x) low before hash none last added = tt
 
-pub meets_there : (plan : Plan) (start : Point) (entries read : List Entry) (p : Point) (found : Option ℕ) (j : ℕ) → read ≡ entries → found ≡ Some j → IsFound plan start read p found → (point : ℕ → Point) → IsWalk plan start entries point → Meets plan start entries entries p j point
-meets_there plan start entries read p found j same is known point walk = meets_old plan start entries p j point (subst (λ (es : List Entry). IsFound plan start es p (Some j)) same (subst (λ (o : Option ℕ). IsFound plan start read p o) is known)) walk
+pub meets_there : (plan : Plan) (start : Point) (entries read : List Entry) (hash : ℕ) (p : Point) (found : Option ℕ) (j : ℕ) → read ≡ entries → found ≡ Some j → IsFound plan start read hash p found → (point : ℕ → Point) → IsWalk plan start entries point → Meets plan start entries entries p j point
+meets_there plan start entries read hash p found j same is known point walk = meets_old plan start entries hash p j point (subst (λ (es : List Entry). IsFound plan start es hash p (Some j)) same (subst (λ (o : Option ℕ). IsFound plan start read hash p o) is known)) walk
+
+pub found_none : (plan : Plan) (start : Point) (entries read : List Entry) (hash : ℕ) (p : Point) (found : Option ℕ) → read ≡ entries → found ≡ None → IsFound plan start read hash p found → IsFound plan start entries hash p None
+found_none plan start entries read hash p found same is known = subst (λ (es : List Entry). IsFound plan start es hash p None) same (subst (λ (o : Option ℕ). IsFound plan start read hash p o) is known)
 
 -- ---- one lane, as it went
 

@@ -1,5 +1,5 @@
 -- What a search of all orders tells.
-use Rattle.std.specs.Prelude.{◌≡◌, ◌<◌, ◌≤◌, ◌⊎◌, ◌+◌, ℕ, zero, suc, List, length, replicate, Option, Some, None, IsSome}
+use Rattle.std.specs.Prelude.{◌≡◌, ◌≢◌, ◌<◌, ◌≤◌, ◌⊎◌, ◌+◌, ℕ, zero, suc, List, length, replicate, Option, Some, None, IsSome}
 use Rattle.nt_calls.specs.State.{State}
 use Rattle.nt_core.specs.Dispatcher.{Dispatcher, state}
 use Rattle.nt_look.specs.Orders as orders
@@ -43,14 +43,19 @@ TellsVerdict plan start (verdict.Met level) = NoneHangsWithin plan start level
 
 -- ---- how the search goes
 
+-- no two of the first n are the same
+abbrev pub AreDistinct : (ℕ → Point) → ℕ → Type 0
+AreDistinct point n = (i j : ℕ) → i < j → j < n → point i ≢ point j
+
 -- the points are looked at in turn, the start first, and a look meets each point to which a lane leads from there, and no other:
--- after i looks the first `met i` points are met
+-- after i looks the first `met i` points are met, each once
 pub record AreMetInTurn (plan : Plan) (start : Point) (point : ℕ → Point) (met : ℕ → ℕ) (looked : ℕ) : Type 0 where
   pub first : point 0 ≡ start
   pub one : met 0 ≡ 1
   pub more : (i : ℕ) → i < looked → met i ≤ met (i + 1)
   pub leads : (i lane : ℕ) (q : Point) → i < looked → Goes plan (point i) lane q → (j : ℕ) × (j < met (i + 1)) × (point j ≡ q)
   pub came : (i j : ℕ) → i < looked → met i ≤ j → j < met (i + 1) → (lane : ℕ) × Goes plan (point i) lane (point j)
+  pub once : AreDistinct point (met looked)
 
 -- the search ends as soon as each point that was met was looked at, or more than `most` were met; it always looks at the start
 pub record EndsAfter (most : ℕ) (met : ℕ → ℕ) (looked : ℕ) : Type 0 where

@@ -1,10 +1,11 @@
 -- How the states that a search met lie in its table. No public clause cites this module.
-use Rattle.std.specs.Prelude.{Contains, ◌⊎◌, true, false, Option, None, Some, ◌≡◌, ◌<◌, ◌≤◌, ◌+◌, ℕ, Bool, List, [], ◌∷◌, length, slice_index_or}
+use Rattle.std.specs.Prelude.{Contains, ◌⊎◌, true, false, Option, None, Some, ◌≡◌, ◌≢◌, ◌<◌, ◌≤◌, ◌+◌, ℕ, Bool, List, [], ◌∷◌, length, slice_index_or}
 use Rattle.nt_calls.specs.State.{State, pends}
 use Rattle.nt_core.specs.Dispatcher.{Dispatcher, state}
 use Rattle.nt_look.specs.Hangs.{marked}
 use Rattle.nt_look.specs.Orders.{Plan, Point, Goes, steps}
-use Rattle.nt_explore.specs.Search.{CanGo, CountsTo, IsOneIf}
+use Rattle.nt_explore.specs.Search.{AreDistinct, CanGo, CountsTo, IsOneIf}
+use Rattle.nt_explore.specs.Hash.{hash_of}
 use Rattle.nt_explore.specs.declared.loss.Edge.{Edge}
 use Rattle.nt_explore.specs.declared.met.Entry.{Entry}
 use Rattle.nt_explore.specs.declared.place.Place.{Place}
@@ -31,17 +32,23 @@ parent_of entries i = (slice_index_or entries i no_entry).parent
 abbrev pub lane_of : List Entry → ℕ → ℕ
 lane_of entries i = (slice_index_or entries i no_entry).lane
 
+abbrev pub hash_at : List Entry → ℕ → ℕ
+hash_at entries i = (slice_index_or entries i no_entry).hash
+
 -- each state but the first came from one before it
 abbrev pub AreBehind : List Entry → Type 0
 AreBehind entries = (i : ℕ) → 0 < i → i < length entries → parent_of entries i < i
 
--- these are the points that were met: the first is the start, and each other one came from its parent by its lane
+-- these are the points that were met, no two the same: the first is the start, and each other one came from its parent by its lane,
+-- and has its hash
 pub record IsWalk (plan : Plan) (start : Point) (entries : List Entry) (point : ℕ → Point) : Type 0 where
   pub some : 0 < length entries
   pub first : point 0 ≡ start
   pub behind : AreBehind entries
   pub wide : (i : ℕ) → i < length entries → length (point i).at ≡ length plan
   pub came : (i : ℕ) → 0 < i → i < length entries → Goes plan (point (parent_of entries i)) (lane_of entries i) (point i)
+  pub hashed : (i : ℕ) → 0 < i → i < length entries → hash_at entries i ≡ hash_of (point i)
+  pub differ : AreDistinct point (length entries)
 
 -- the same points, and perhaps more
 pub record Grows (plan : Plan) (start : Point) (old new : List Entry) (point points : ℕ → Point) : Type 0 where
@@ -62,10 +69,15 @@ Went plan old lane false new = (new ≡ old) × ((q : Point) → Goes plan old l
 abbrev pub IsWide : Plan → Point → Type 0
 IsWide plan p = length p.at ≡ length plan
 
--- what was found is this point
-abbrev pub IsFound : Plan → Point → List Entry → Point → Option ℕ → Type 0
-IsFound plan start entries p None = Unit {0}
-IsFound plan start entries p (Some j) = (j < length entries) × ((point : ℕ → Point) → IsWalk plan start entries point → point j ≡ p)
+-- if the entry has this hash, it is not this point's
+abbrev pub IsOther : Plan → Point → List Entry → ℕ → Point → ℕ → Type 0
+IsOther plan start entries hash p i =
+    i < length entries → hash_at entries i ≡ hash → (point : ℕ → Point) → IsWalk plan start entries point → point i ≢ p
+
+-- what was found by this hash is this point; and where nothing was, none is, but perhaps the start
+abbrev pub IsFound : Plan → Point → List Entry → ℕ → Point → Option ℕ → Type 0
+IsFound plan start entries hash p None = (i : ℕ) → 0 < i → IsOther plan start entries hash p i
+IsFound plan start entries hash p (Some j) = (j < length entries) × ((point : ℕ → Point) → IsWalk plan start entries point → point j ≡ p)
 
 -- from a state to one to which a lane leads
 abbrev pub edge : ℕ → ℕ → Edge

@@ -38,6 +38,8 @@ fn tick(core: &mut Core, thread: u32, moment: Moment)
     ensures made { IsAskMade (state core.old) thread (Passes moment) (state core.new) }
     ensures threads { (state core.new).threads ≡ (state core.old).threads }
 {
+    // A moment is at most the greatest, as reading it tells.
+    let _units = moment.get();
     let _answer = core.tick(moment);
 }
 

@@ -10,7 +10,7 @@
 //!
 //! **No state is kept.** Of each that was met the table has 16 bytes: a hash, the state that it came from, and the lane that went. Where a
 //! hash is known already, that state is made again, from the start and the lanes that led there, and the two are compared
-//! (`Core::is_like`). So nothing rests on the hash.
+//! (`Core::is_like`). Equal states have equal hashes, so each is met once; that two others have the same costs time alone.
 //!
 //! Where all states were met and one hangs, it also tells from when on a wait was lost ([`Loss`]), which is often earlier. For that each
 //! step is kept as the numbers of two states, 8 bytes. A wait is lost where it pends and is lost wherever a lane leads from there. So

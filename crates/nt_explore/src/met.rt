@@ -1,9 +1,11 @@
 //! The states that were met.
-ghost use Rattle.std.specs.Prelude.{◌≡◌, ◌<◌, ◌≤◌, ◌+◌, ◌++◌, ◌∷◌, [], ℕ, true, Some, length, replicate, IfOk, OnOk, OnErr};
+ghost use Rattle.std.specs.Prelude.{◌≡◌, ◌<◌, ◌≤◌, ◌+◌, ◌^◌, ◌++◌, ◌∷◌, [], ℕ, true, false, Some, length, replicate, IfOk, OnOk, OnErr};
 ghost use Rattle.nt_core.specs.Dispatcher.{state};
 ghost use Rattle.nt_look.specs.Orders.{Point};
+ghost use Rattle.nt_explore.specs.Hash.{hash_of};
 ghost use Rattle.nt_explore.specs.Search.{start_of};
-ghost use Rattle.nt_explore.specs.Walk.{no_entry, point_of, Arrives, AreBehind, IsWalk, IsFound, MeetsFrom};
+ghost use Rattle.nt_explore.specs.Slots.{slot_after, used, PutsIn, AreInSlots, IsTable};
+ghost use Rattle.nt_explore.specs.Walk.{no_entry, point_of, Arrives, AreBehind, IsWalk, IsOther, IsFound, MeetsFrom};
 
 use crate::going::go_on;
 use crate::hash::hash_of;
@@ -27,7 +29,7 @@ pub struct Entry {
 pub struct Met {
     pub entries: Vec<Entry>,
     /// At a hash's slot, or the next free one: the number of a state and 1, or 0.
-    slots: Vec<usize>,
+    pub slots: Vec<usize>,
 }
 
 /// The lanes that led to the state, the last first.
@@ -94,10 +96,15 @@ fn is_at(
     hash: u32,
 ) -> Result<bool, AllocError>
     requires behind { AreBehind entries.now }
-    ensures { IfOk result (λ found. found ≡ true → IsFound plan.now (start_of plan.now start.now) entries.now
+    ensures found { IfOk result (λ found. found ≡ true → IsFound plan.now (start_of plan.now start.now) entries.now hash
         (point_of place.now) (Some index)) }
+    ensures other { IfOk result (λ found. found ≡ false → IsOther plan.now (start_of plan.now start.now) entries.now hash
+        (point_of place.now) index) }
 {
-    if index >= entries.len() || entries[index].hash != hash {
+    if index >= entries.len() {
+        return Ok(false);
+    }
+    if entries[index].hash != hash {
         return Ok(false);
     }
     let other = again(alloc, start, plan, entries, index)?;
@@ -115,7 +122,8 @@ fn find(
     hash: u32,
 ) -> Result<Option<usize>, AllocError>
     requires behind { AreBehind entries.now }
-    ensures { IfOk result (IsFound plan.now (start_of plan.now start.now) entries.now
+    requires stand { AreInSlots entries.now (length entries.now) slots.now }
+    ensures { IfOk result (IsFound plan.now (start_of plan.now start.now) entries.now hash
         (point_of place.now)) }
 {
     let count = slots.len();
@@ -135,7 +143,8 @@ fn find(
 /// The slot so many steps after the hash's own.
 fn slot_after(hash: u32, step: usize, count: usize) -> usize
     requires { step < count }
-    ensures { result < count }
+    ensures within { result < count }
+    ensures slot { result ≡ slot_after hash step count }
 {
     let first = hash as usize % count;
     let left = count - first;
@@ -147,7 +156,10 @@ fn slot_after(hash: u32, step: usize, count: usize) -> usize
 }
 
 /// Puts a number into the first free slot from its hash on.
-fn put(slots: &mut [usize], hash: u32, number: usize) {
+fn put(slots: &mut [usize], hash: u32, number: usize)
+    requires { used slots.old < length slots.old }
+    ensures { PutsIn slots.old slots.new (length slots.old) hash number }
+{
     let count = slots.len();
     for step in 0..count {
         let slot = slot_after(hash, step, count);
@@ -159,8 +171,14 @@ fn put(slots: &mut [usize], hash: u32, number: usize) {
 }
 
 /// Slots for these states, and for as many more.
-fn slots_of(alloc: Global, entries: &[Entry]) -> Result<Vec<usize>, AllocError> {
-    let mut slots = Vec::from_elem(alloc, 0, entries.len().saturating_mul(4).saturating_add(64))?;
+fn slots_of(alloc: Global, entries: &[Entry]) -> Result<Vec<usize>, AllocError>
+    requires { length entries.now < 2 ^ 63 }
+    ensures stand { IfOk result (λ slots. AreInSlots entries.now (length entries.now) slots.items) }
+    ensures few { IfOk result (λ slots. used slots.items ≤ length entries.now) }
+    ensures room { IfOk result (λ slots. length entries.now < length slots.items) }
+{
+    let count = entries.len().saturating_mul(4).saturating_add(64);
+    let mut slots = Vec::from_elem(alloc, 0, count)?;
     for index in 0..entries.len() {
         put(&mut slots, entries[index].hash, index + 1);
     }
@@ -169,7 +187,10 @@ fn slots_of(alloc: Global, entries: &[Entry]) -> Result<Vec<usize>, AllocError> 
 
 /// Makes room for one state more in the table, of which at most half is used.
 fn grow(met: &mut Met, alloc: Global) -> Result<(), AllocError>
-    ensures { met.new.entries ≡ met.old.entries }
+    requires { IsTable met.old.entries.items met.old.slots.items }
+    ensures entries { met.new.entries ≡ met.old.entries }
+    ensures table { IsTable met.new.entries.items met.new.slots.items }
+    ensures room { OnOk result (length met.new.entries.items < length met.new.slots.items) }
 {
     if met.slots.len() / 2 > met.entries.len() {
         return Ok(());
@@ -180,6 +201,9 @@ fn grow(met: &mut Met, alloc: Global) -> Result<(), AllocError>
 
 /// Adds a state.
 fn add(met: &mut Met, alloc: Global, entry: Entry) -> Result<usize, AllocError>
+    requires table { IsTable met.old.entries.items met.old.slots.items }
+    requires there { entry.parent < length met.old.entries.items }
+    ensures table { OnOk result (IsTable met.new.entries.items met.new.slots.items) }
     ensures kept { OnErr result (met.new.entries.items ≡ met.old.entries.items) }
     ensures added { OnOk result (met.new.entries.items ≡ met.old.entries.items ++ entry ∷ []) }
     ensures index { IfOk result (λ index. index ≡ length met.old.entries.items) }
@@ -194,7 +218,8 @@ fn add(met: &mut Met, alloc: Global, entry: Entry) -> Result<usize, AllocError>
 impl Met {
     /// The start alone.
     pub fn new(alloc: Global) -> Result<Met, AllocError>
-        ensures { IfOk result (λ met. met.entries.items ≡ no_entry ∷ []) }
+        ensures start { IfOk result (λ met. met.entries.items ≡ no_entry ∷ []) }
+        ensures table { IfOk result (λ met. IsTable met.entries.items met.slots.items) }
     {
         let mut entries = Vec::with_capacity(alloc, 1)?;
         entries.push_reserved(Entry {
@@ -216,18 +241,18 @@ impl Met {
         parent: usize,
         lane: u32,
     ) -> Result<usize, AllocError>
-        requires behind { AreBehind self.old.entries.items }
+        requires table { IsTable self.old.entries.items self.old.slots.items }
         requires there { parent < length self.old.entries.items }
         ensures point { IfOk result (MeetsFrom plan.now (start_of plan.now start.now) self.old.entries.items self.new.entries.items
             parent lane (point_of place.now)) }
-        ensures behind { OnOk result (AreBehind self.new.entries.items) }
+        ensures table { OnOk result (IsTable self.new.entries.items self.new.slots.items) }
         ensures longer { OnOk result (length self.old.entries.items ≤ length self.new.entries.items) }
     {
         let hash = hash_of(&place.core, &place.places);
         let found = find(alloc, start, plan, &self.entries, &self.slots, place, hash)?;
-        if let Some(index) = found {
-            return Ok(index);
+        match found {
+            Some(index) => Ok(index),
+            None => add(self, alloc, Entry { hash, lane, parent }),
         }
-        add(self, alloc, Entry { hash, lane, parent })
     }
 }

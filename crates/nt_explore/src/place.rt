@@ -1,5 +1,5 @@
 //! How far each lane is, and the dispatcher.
-ghost use Rattle.std.specs.Prelude.{◌≡◌, true, length, IfOk};
+ghost use Rattle.std.specs.Prelude.{◌≡◌, ◌↔◌, true, length, IfOk};
 ghost use Rattle.nt_core.specs.Dispatcher.{state};
 ghost use Rattle.nt_explore.specs.Search.{start_of};
 ghost use Rattle.nt_explore.specs.Walk.{point_at, point_of};
@@ -45,7 +45,10 @@ pub fn copy_of(alloc: Global, place: &Place) -> Result<Place, AllocError>
 
 /// Whether both are the same place in equal states.
 pub fn is_like(a: &Place, b: &Place) -> bool
-    ensures { result ≡ true → point_of a.now ≡ point_of b.now }
+    ensures { (result ≡ true) ↔ (point_of a.now ≡ point_of b.now) }
 {
-    a.places == b.places && a.core.is_like(&b.core)
+    if a.places != b.places {
+        return false;
+    }
+    a.core.is_like(&b.core)
 }

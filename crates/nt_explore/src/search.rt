@@ -4,6 +4,7 @@ ghost use Rattle.std.specs.Option.{ForSome, option_map};
 ghost use Rattle.nt_explore.specs.declared.loss.Edges.{Edges};
 ghost use Rattle.nt_explore.specs.Search.{start_of, TellsVerdict, TellsLoss, HasLoss, TellsSearch, Learns};
 ghost use Rattle.nt_explore.specs.Walk.{point_of, AreBehind, LeadsTo, TriesAt, TriesLaneAt, TriesLaneTo};
+ghost use Rattle.nt_explore.specs.Slots.{IsTable};
 ghost use Rattle.nt_explore.specs.Levels.{LiesAt, LooksOn, OfSearch, first_then, one_more_if};
 
 use crate::explored::{Explored, Loss, Verdict};
@@ -66,11 +67,11 @@ fn meet_next(
     index: usize,
     lane: u32,
 ) -> Result<(), AllocError>
-    requires behind { AreBehind met.old.entries.items }
+    requires table { IsTable met.old.entries.items met.old.slots.items }
     requires there { index < length met.old.entries.items }
     ensures point { OnOk result (TriesLaneTo plan.now (start_of plan.now start.now) met.old.entries.items met.new.entries.items
         pairs.old.items pairs.new.items index lane (point_of next.now)) }
-    ensures behind { OnOk result (AreBehind met.new.entries.items) }
+    ensures table { OnOk result (IsTable met.new.entries.items met.new.slots.items) }
     ensures longer { OnOk result (length met.old.entries.items ≤ length met.new.entries.items) }
 {
     let to = met.meet(alloc, start, plan, next, index, lane)?;
@@ -88,13 +89,13 @@ fn try_lane(
     index: usize,
     lane: u32,
 ) -> Result<(), AllocError>
-    requires behind { AreBehind met.old.entries.items }
+    requires table { IsTable met.old.entries.items met.old.slots.items }
     requires there { index < length met.old.entries.items }
     requires wide { length place.now.places.items ≡ length plan.now }
     requires known { lane < length plan.now }
     ensures point { OnOk result (TriesLaneAt plan.now (start_of plan.now start.now) met.old.entries.items met.new.entries.items
         pairs.old.items pairs.new.items (point_of place.now) index lane) }
-    ensures behind { OnOk result (AreBehind met.new.entries.items) }
+    ensures table { OnOk result (IsTable met.new.entries.items met.new.slots.items) }
     ensures longer { OnOk result (length met.old.entries.items ≤ length met.new.entries.items) }
 {
     let next = next_of(alloc, plan, place, lane)?;
@@ -114,12 +115,12 @@ fn try_lanes(
     place: &Place,
     index: usize,
 ) -> Result<(), AllocError>
-    requires behind { AreBehind met.old.entries.items }
+    requires table { IsTable met.old.entries.items met.old.slots.items }
     requires there { index < length met.old.entries.items }
     requires wide { length place.now.places.items ≡ length plan.now }
     ensures point { OnOk result (TriesAt plan.now (start_of plan.now start.now) met.old.entries.items met.new.entries.items
         pairs.old.items pairs.new.items (point_of place.now) index (length plan.now)) }
-    ensures behind { OnOk result (AreBehind met.new.entries.items) }
+    ensures table { OnOk result (IsTable met.new.entries.items met.new.slots.items) }
     ensures longer { OnOk result (length met.old.entries.items ≤ length met.new.entries.items) }
 {
     for lane in 0..plan.lanes() {
@@ -157,13 +158,13 @@ fn look_at(
     counts: &mut Counts,
     index: usize,
 ) -> Result<(), AllocError>
-    requires behind { AreBehind met.old.entries.items }
+    requires table { IsTable met.old.entries.items met.old.slots.items }
     requires there { index < length met.old.entries.items }
     requires few { counts.old.hangs ≤ index }
     ensures point { OnOk result (LooksOn plan.now start.now met.old.entries.items met.new.entries.items
         edges.old edges.new index counts.old counts.new) }
     ensures few { OnOk result (counts.new.hangs ≤ index + 1) }
-    ensures behind { OnOk result (AreBehind met.new.entries.items) }
+    ensures table { OnOk result (IsTable met.new.entries.items met.new.slots.items) }
     ensures longer { OnOk result (length met.old.entries.items ≤ length met.new.entries.items) }
 {
     let place = again(alloc, start, plan, &met.entries, index)?;

@@ -2,7 +2,7 @@
 ghost use Rattle.std.specs.Prelude.{◌≡◌, ◌++◌, IfOk, OnOk, codes, decimal};
 ghost use Rattle.std.specs.List.{flat_map};
 ghost use Rattle.nt_status.specs.Status.{status_text};
-ghost use Rattle.nt_orders.specs.Answers.{order_answer_text, apc_text, wait_end_text, how_text, reply_text, result_text, whose_text};
+ghost use Rattle.nt_orders.specs.Answers.{order_answer_text, apc_text, ending_text, wait_end_text, how_text, reply_text, result_text, whose_text};
 ghost use Rattle.nt_script.specs.Transcript.{moment_text};
 
 use nt_apc::Apc;
@@ -11,13 +11,27 @@ use nt_hangs::{put_number, put_signed};
 use nt_status::{OptionalMoment, Refusal, Status, ThreadId};
 use std::alloc::{AllocError, Global};
 
-/// Puts the name of a status.
-fn put_status(out: &mut Vec<u8>, status: Status) -> Result<(), AllocError>
+/// Puts the name of a status, with the index of its object.
+fn put_indexed(out: &mut Vec<u8>, status: Status) -> Result<(), AllocError>
     ensures { OnOk result (out.new.items ≡ out.old.items ++ status_text status) }
 {
     let alloc = *out.allocator();
     let name = format!(in alloc; "{status}")?;
     out.extend_from_slice(name.as_bytes())
+}
+
+/// Puts the name of a status. That of the first object has no number after it.
+fn put_status(out: &mut Vec<u8>, status: Status) -> Result<(), AllocError>
+    ensures { OnOk result (out.new.items ≡ out.old.items ++ ending_text status) }
+{
+    let code = status.code();
+    if code == 0 {
+        out.extend_from_slice(b"WAIT_OBJECT_0")
+    } else if code == 0x80 {
+        out.extend_from_slice(b"WAIT_ABANDONED_0")
+    } else {
+        put_indexed(out, status)
+    }
 }
 
 /// Puts when the timer was due that queued an APC.

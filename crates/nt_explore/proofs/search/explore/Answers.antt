@@ -2,9 +2,8 @@ use Rattle.std.proofs.Common.{◌≡◌, ◌<◌, ◌∙◌, ◌≤◌, ◌+◌,
 use Rattle.nt_core.specs.Dispatcher.{state}
 use Rattle.nt_explore.specs.declared.met.Entry.{Entry}
 use Rattle.nt_explore.specs.Search.{beginning, CanGo, CountsTo, SumsTo}
-use Rattle.nt_explore.specs.Walk.{AreBehind}
 use Rattle.nt_explore.specs.Levels.{IsSearch, IsCounted, LiesAt, then_met}
-use Rattle.nt_explore.proofs.Levels.{search_begins, behind_one}
+use Rattle.nt_explore.proofs.Levels.{search_begins}
 use Rattle.nt_explore.proofs.Counting.{left_more, learns_more, tells_bound}
 use Rattle.std.proofs.lemmas.Bool.Decides.{nat_tests}
 use Rattle.nt_explore.proofs.search.explore.Given as given
@@ -16,10 +15,10 @@ loop-looked-init g c =
     let plan = c.args.plan.now in
     let s = state c.args.start.now in
     let edges = c.no_edges-edges.result in
-    let first = c.in_ok-met.ensures in (
+    let first = c.in_ok-met.ensures.start in (
       omega arith,
       let count = ap (λ (es : List Entry). length es) first in omega (arith, count),
-      subst AreBehind (sym first) behind_one,
+      c.in_ok-met.ensures.table,
       omega arith,
       λ i. 1,
       subst (λ (es : List Entry). IsCounted plan (beginning plan s) es edges 0 (record { hangs = 0; first = None }) (λ i. 1)) (sym first)
@@ -47,7 +46,7 @@ loop-looked-preserved g c =
     ] in (
       grind (arith, below, count, longer),
       omega (arith, some, longer),
-      c.in_ok-look_at.ensures.behind,
+      c.in_ok-look_at.ensures.table,
       c.in_ok-look_at.ensures.few,
       then_met met l.looked states,
       c.in_ok-look_at.ensures.point met so,

@@ -1,7 +1,7 @@
 use Rattle.std.proofs.Common.{ℕ, ◌≤◌, ◌<◌, ◌-◌, ◌+◌, length}
 use Rattle.nt_core.specs.Dispatcher.{state}
 use Rattle.nt_explore.specs.Search.{beginning, Learns}
-use Rattle.nt_explore.specs.Walk.{AreBehind}
+use Rattle.nt_explore.specs.Slots.{IsTable}
 use Rattle.nt_explore.specs.Levels.{IsCounted}
 use Rattle.nt_explore.proofs.Counting.{HasLeft}
 use Rattle.nt_explore.proofs.search.explore.Given as goal
@@ -13,7 +13,7 @@ abbrev pub invariant-loop-looked : goal.invariant-loop-looked
 invariant-loop-looked g l =
     (l.looked ≤ length l.met.entries.items)
     × (0 < length l.met.entries.items)
-    × AreBehind l.met.entries.items
+    × IsTable l.met.entries.items l.met.slots.items
     × (l.counts.hangs ≤ l.looked)
     × (met : ℕ → ℕ)
     × IsCounted l.plan (beginning l.plan (state l.start)) l.met.entries.items l.edges l.looked l.counts met

@@ -7,14 +7,14 @@ use Rattle.nt_explore.proofs.search.try_lanes.Goals as goal
 
 pub loop-lane-init : goal.loop-lane-init
 loop-lane-init c = (
-  c.requires.behind,
+  c.requires.table,
   omega arith,
   λ point walk here. tries_none c.args.plan.now (beginning c.args.plan.now (state c.args.start.now)) c.args.met.now.entries.items c.args.pairs.now.items (point_at c.args.place.now.places.items c.args.place.now.core) c.args.index point walk,
 )
 
 pub loop-lane-preserved : goal.loop-lane-preserved
 loop-lane-preserved c = (
-  c.in_ok-try_lane.ensures.behind,
+  c.in_ok-try_lane.ensures.table,
   let one = c.loop-lane.invariant.1 in let two = c.in_ok-try_lane.ensures.longer in omega (arith, one, two),
   λ point walk here. tries_more c.args.plan.now (beginning c.args.plan.now (state c.args.start.now)) c.args.met.now.entries.items c.loop-lane.met.entries.items c.try_lane.new.met.entries.items c.args.pairs.now.items c.loop-lane.pairs.items c.try_lane.new.pairs.items (point_at c.args.place.now.places.items c.args.place.now.core) c.loop-lane.lane c.args.index point c.requires.there here (c.loop-lane.invariant.2 point walk here) c.in_ok-try_lane.ensures.point,
 )

@@ -2,11 +2,12 @@ use Rattle.std.proofs.Common.{◌≡◌, ◌≤◌, ℕ, length}
 use Rattle.nt_core.specs.Dispatcher.{state}
 use Rattle.nt_look.specs.Orders.{Point}
 use Rattle.nt_explore.specs.Search.{beginning}
-use Rattle.nt_explore.specs.Walk.{point_at, AreBehind, IsWalk, Tries}
+use Rattle.nt_explore.specs.Walk.{point_at, IsWalk, Tries}
+use Rattle.nt_explore.specs.Slots.{IsTable}
 use Rattle.nt_explore.proofs.search.try_lanes.Given as goal
 
 abbrev pub invariant-loop-lane : goal.invariant-loop-lane
 invariant-loop-lane l =
-    AreBehind l.met.entries.items
+    IsTable l.met.entries.items l.met.slots.items
     × (length l.initial.met.entries.items ≤ length l.met.entries.items)
     × ((point : ℕ → Point) → IsWalk l.plan (beginning l.plan (state l.start)) l.initial.met.entries.items point → point l.index ≡ point_at l.place.places.items l.place.core → Tries l.plan (beginning l.plan (state l.start)) l.initial.met.entries.items l.met.entries.items l.initial.pairs.items l.pairs.items (point_at l.place.places.items l.place.core) l.index l.lane point)

@@ -1,0 +1,8 @@
+use Rattle.nt_core.specs.Dispatcher.{state}
+use Rattle.nt_explore.specs.Search.{beginning}
+use Rattle.nt_explore.specs.Walk.{point_at}
+use Rattle.nt_explore.proofs.Slots.{LooksPast}
+use Rattle.nt_explore.proofs.met.find.Given as goal
+
+abbrev pub invariant-loop-step : goal.invariant-loop-step
+invariant-loop-step l = LooksPast l.plan (beginning l.plan (state l.start)) l.entries l.slots l.hash (point_at l.place.places.items l.place.core) l.step
