@@ -10,13 +10,13 @@ use Rattle.nt_apc.specs.Queues.{has_apc}
 use Rattle.nt_calls.specs.State.{object_at, pends}
 use Rattle.nt_core.specs.Dispatcher.{Dispatcher, state}
 use Rattle.nt_core.specs.Lawful.{IsLawful}
-use Rattle.nt_look.specs.Hangs.{fits_in_time, is_called_in_time, ends_in_time, marked, unmarked, IsStuck}
-use Rattle.nt_look.specs.Deciding.{ends_by_time, IsHanging}
+use Rattle.nt_look.specs.Hangs.{will_come, fits_in_time, is_called_in_time, ends_in_time, can_be_called, is_held, marked, unmarked, IsStuck, IsTied}
+use Rattle.nt_look.specs.Deciding.{ends_by_time, is_in_reach, is_bound, IsHanging}
 use Rattle.nt_look.proofs.Parts.{both_of, together}
 
 -- nobody who waits alertably has an APC
 pub calm_ends : (d : Dispatcher) → IsLawful d → (t : ℕ) (w : Wait) → get (state d).waits t ≡ Some w → ends_in_time (state d) t w ≡ ends_by_time d.objects t w
-calm_ends d lawful t w pends = ap (λ b. is_some w.deadline || (fits_in_time d.objects t w || b)) (go w.alertable (has_apc (state d).apcs t) (is_called_in_time d.objects t) (λ e. lawful.steady.settled.alerted t (w, pends, e)))
+calm_ends d lawful t w pends = ap (λ b. will_come w.deadline || (fits_in_time d.objects t w || b)) (go w.alertable (has_apc (state d).apcs t) (is_called_in_time d.objects t) (λ e. lawful.steady.settled.alerted t (w, pends, e)))
   where
     go : (a b c : Bool) → ((a && b) ≡ true → ⊥) → (a && (b || c)) ≡ (a && c)
     go false b c never = refl
@@ -86,3 +86,36 @@ all_hang d over lawful below = record {
 
 pub stuck_hangs : (d : Dispatcher) (over : List Bool) (t : ℕ) → IsStuck (unmarked over) (state d) → IsHanging (unmarked over) (state d) t
 stuck_hangs d over t stuck = record { waits = stuck.waits t; lasts = stuck.lasts t }
+
+-- ---- a thread that is tied
+
+-- an alertable wait that pends can be ended by the APCs that may still come
+calm_calls : (d : Dispatcher) → IsLawful d → (t : ℕ) (w : Wait) → get (state d).waits t ≡ Some w → (w.alertable && can_be_called (state d) t) ≡ (w.alertable && is_in_reach (state d) t)
+calm_calls d lawful t w pends = go w.alertable (has_apc (state d).apcs t) (is_in_reach (state d) t) (λ e. lawful.steady.settled.alerted t (w, pends, e))
+  where
+    go : (a b c : Bool) → ((a && b) ≡ true → ⊥) → (a && (b || c)) ≡ (a && c)
+    go false b c never = refl
+    go true true c never = absurd (never refl)
+    go true false c never = refl
+
+pub tied_waiting : (d : Dispatcher) (knot : ℕ → Bool) (t : ℕ) (w : Wait) (bound : Bool) → IsLawful d → get (state d).waits t ≡ Some w → bound ≡ is_bound (state d) knot t w → (bound ≡ true) ↔ IsTied knot (state d) t
+tied_waiting d knot t w bound lawful is told = (
+  λ e.
+      let first = both_of (not (will_come w.deadline)) (not (w.alertable && is_in_reach (state d) t) && is_held (state d) knot t w) (sym told ∙ e) in
+      let second = both_of (not (w.alertable && is_in_reach (state d) t)) (is_held (state d) knot t w) first.1 in
+      record {
+        wait = w;
+        pends = is;
+        endless = opposite (will_come w.deadline) first.0;
+        plain = calm_calls d lawful t w is ∙ opposite (w.alertable && is_in_reach (state d) t) second.0;
+        held = second.1;
+      },
+  λ tied.
+      let same : tied.wait ≡ w = same_wait tied.wait w (sym tied.pends ∙ is) in
+      let endless : will_come w.deadline ≡ false = ap (λ (x : Wait). will_come x.deadline) (sym same) ∙ tied.endless in
+      let plain : (w.alertable && can_be_called (state d) t) ≡ false = ap (λ (x : Wait). x.alertable && can_be_called (state d) t) (sym same) ∙ tied.plain in
+      let quiet : (w.alertable && is_in_reach (state d) t) ≡ false = sym (calm_calls d lawful t w is) ∙ plain in
+      let held : is_held (state d) knot t w ≡ true = ap (λ (x : Wait). is_held (state d) knot t x) (sym same) ∙ tied.held in
+      told ∙ together (not (will_come w.deadline)) (not (w.alertable && is_in_reach (state d) t) && is_held (state d) knot t w) (ap (λ b. not b) endless)
+      (together (not (w.alertable && is_in_reach (state d) t)) (is_held (state d) knot t w) (ap (λ b. not b) quiet) held),
+)

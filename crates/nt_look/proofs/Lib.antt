@@ -1,8 +1,10 @@
 mod Parts
+mod Allowing
 mod Waiting
 mod Passing
 mod Standstill
 mod Holding
+mod Calling
 mod Tied
 mod Knots
 mod Deciding

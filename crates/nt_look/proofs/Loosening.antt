@@ -5,12 +5,12 @@ use Rattle.std.specs.List.{list_any, list_all}
 use Rattle.std.specs.FinMap.{get}
 use Rattle.std.proofs.lemmas.Bool.{false≢true, cases_eq}
 use Rattle.std.proofs.lemmas.List.{get_or-set_other, length-set}
+use Rattle.nt_status.specs.Access.{modify_state}
 use Rattle.nt_objects.specs.declared.object.Object.{Object}
 use Rattle.nt_objects.specs.declared.object.Object.TheVariants.{Event, Semaphore, Mutex, Timer, Thread, Gone}
 use Rattle.nt_calls.specs.State.{State, object_at}
-use Rattle.nt_calls.specs.Living.{is_opened}
 use Rattle.nt_core.specs.Dispatcher.{Dispatcher, state}
-use Rattle.nt_look.specs.Hangs.{holds, held_at, marked, unmarked, IsTied, IsKnot}
+use Rattle.nt_look.specs.Hangs.{is_given, holds, held_at, marked, unmarked, IsTied, IsKnot}
 use Rattle.nt_look.specs.Deciding.{IsUntied}
 use Rattle.nt_look.proofs.Parts.{both_of, together, any_kept, all_kept}
 
@@ -69,7 +69,7 @@ holds_more other knot free t o Gone more e = e
 holds_more other knot free t o (Event manual set) more e = e
 holds_more other knot free t o (Semaphore count maximum) more e = e
 holds_more other knot free t o (Timer manual set None) more e = e
-holds_more other knot free t o (Timer manual set (Some armed)) more e = absurd (false≢true e)
+holds_more other knot free t o (Timer manual set (Some armed)) more e = e
 
 tied_more : (other knot : ℕ → Bool) (s : State) (t : ℕ) → ((u : ℕ) → other u ≡ true → knot u ≡ true) → IsTied other s t → IsTied knot s t
 tied_more other knot s t more tied = record {
@@ -81,7 +81,7 @@ tied_more other knot s t more tied = record {
 }
   where
     each : (j : ℕ) → j < length tied.wait.objects → held_at s other t (slice_index tied.wait.objects j) ≡ true → held_at s knot t (slice_index tied.wait.objects j) ≡ true
-    each j below is = let o = slice_index tied.wait.objects j in holds_more other knot (not (is_opened s o)) t o (object_at s.objects o) more is
+    each j below is = let o = slice_index tied.wait.objects j in holds_more other knot (not (is_given s modify_state o)) t o (object_at s.objects o) more is
 
     go : (all : Bool) → cond all (list_any (held_at s other t) tied.wait.objects) (list_all (held_at s other t) tied.wait.objects) ≡ true
         → cond all (list_any (held_at s knot t) tied.wait.objects) (list_all (held_at s knot t) tied.wait.objects) ≡ true

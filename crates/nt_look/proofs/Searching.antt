@@ -76,7 +76,7 @@ order_turns plan (lane ∷ lanes) a p q later order = go goes.ask goes.next goes
     go (Passes moment) next made rest = record {
       turns = runs.Ticks lane moment made.0 made.1 ∷ rest.turns;
       run = (mid.state, made.2, rest.run);
-      by = rest.by;
+      by = (made.3, rest.by);
     }
 
 -- ---- a hang is for good

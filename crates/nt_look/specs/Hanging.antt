@@ -1,6 +1,7 @@
 -- What follows of every run from a state in which threads hang.
-use Rattle.std.specs.Prelude.{◌≡◌, ℕ, Bool, true, false, List, [], ◌∷◌, is_ok}
+use Rattle.std.specs.Prelude.{◌≡◌, ◌≤◌, ℕ, Bool, true, false, List, [], ◌∷◌, is_ok}
 use Rattle.std.specs.FinMap.{get}
+use Rattle.nt_status.specs.declared.limits.TheConstants.{MAX_MOMENT}
 use Rattle.nt_calls.specs.State.{State}
 use Rattle.nt_calls.specs.Moves.{granted_to}
 use Rattle.nt_calls.specs.Runs.{Turn, Calls, Ticks, Turns}
@@ -8,11 +9,11 @@ use Rattle.nt_core.specs.Dispatcher.{Dispatcher, state}
 use Rattle.nt_core.specs.Lawful.{IsLawful}
 use Rattle.nt_look.specs.Hangs.{IsStuck, IsKnot}
 
--- the turns are calls of these threads, and ticks
+-- the turns are calls of these threads, and ticks, none of which is to a moment beyond the greatest: a dispatcher takes no other
 abbrev pub AreBy : (ℕ → Bool) → List Turn → Type 0
 AreBy callers [] = Unit {0}
 AreBy callers (Calls who call result grants ∷ turns) = (callers who ≡ true) × AreBy callers turns
-AreBy callers (Ticks by moment result grants ∷ turns) = AreBy callers turns
+AreBy callers (Ticks by moment result grants ∷ turns) = (moment ≤ MAX_MOMENT) × AreBy callers turns
 
 -- nothing comes of the turns: each call is refused, and no wait ends
 abbrev pub AreVain : List Turn → Type 0

@@ -1,5 +1,6 @@
 -- Every order in which threads may make the calls that each of them has to make, one after another.
 use Rattle.std.specs.Prelude.{◌≡◌, ◌≢◌, ◌≤◌, ◌<◌, ◌⊎◌, ◌+◌, ◌↔◌, Contains, ℕ, Bool, true, false, ◌||◌, nat_lt, List, [], ◌∷◌, length, slice_get, slice_index_or, slice_set, Some, Result, Err}
+use Rattle.nt_status.specs.declared.limits.TheConstants.{MAX_MOMENT}
 use Rattle.nt_status.specs.declared.refusal.Refusal.{Refusal}
 use Rattle.nt_status.specs.declared.refusal.Refusal.TheVariants.{Memory}
 use Rattle.nt_calls.specs.declared.call.Call.{Call}
@@ -40,10 +41,10 @@ has_more plan p lane = nat_lt (place p lane) (length (asks plan lane))
 abbrev pub goes_on : Plan → Point → ℕ → Bool
 goes_on plan p t = has_more plan p t || pends p.state t
 
--- what was asked was made; that memory is refused is no order of the plan
+-- what was asked was made; that memory is refused is no order of the plan, nor that a moment beyond the greatest passes
 abbrev pub IsAskMade : State → ℕ → Ask → State → Type 0
 IsAskMade old t (Calls call) new = (result : Result Reply Refusal) × (grants : List Grant) × (result ≢ Err Memory) × Called old t call result grants new
-IsAskMade old t (Passes moment) new = (result : Result Reply Refusal) × (grants : List Grant) × Ticked old moment result grants new
+IsAskMade old t (Passes moment) new = (result : Result Reply Refusal) × (grants : List Grant) × Ticked old moment result grants new × (moment ≤ MAX_MOMENT)
 
 -- the lane does what comes next in it; a thread that waits makes no call
 pub record Goes (plan : Plan) (old : Point) (lane : ℕ) (new : Point) : Type 0 where

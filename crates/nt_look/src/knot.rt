@@ -1,21 +1,36 @@
 //! Which threads hold each other.
-ghost use Rattle.std.specs.Prelude.{◌≡◌, ◌<◌, ◌↔◌, true, length, MatchOption, IfOk};
+ghost use Rattle.std.specs.Prelude.{◌≡◌, ◌<◌, ◌↔◌, true, not, length, MatchOption, IfOk};
 ghost use Rattle.std.specs.List.{list_all, list_any};
 ghost use Rattle.nt_core.specs.Dispatcher.{state};
-ghost use Rattle.nt_look.specs.Hangs.{holds, held_at, is_held, marked, unmarked, IsTied, IsKnot, IsGreatestKnot};
-ghost use Rattle.nt_look.specs.Deciding.{IsUntied};
+ghost use Rattle.nt_status.specs.Access.{modify_state};
+ghost use Rattle.nt_look.specs.Hangs.{holds, held_at, is_given, is_held, marked, unmarked, IsTied, IsKnot, IsGreatestKnot};
+ghost use Rattle.nt_look.specs.Deciding.{is_bound, is_in_reach, IsUntied};
 
-use crate::stuck::is_marked;
+use crate::rights::is_given;
+use crate::stuck::{is_called_in_time, is_marked, will_come};
 use nt_core::Core;
 use nt_objects::Object;
-use nt_status::{ObjectNumber, ThreadId};
+use nt_status::{Access, ObjectNumber, ThreadId};
 use nt_waits::Wait;
 use std::alloc::{AllocError, Global};
 
-/// Whether only a thread of the knot can have the object signaled for this thread, or nothing can. Of an event, a semaphore and a
-/// timer it has to be known whether no handle names it.
-fn holds(knot: &[bool], free: bool, thread: ThreadId, number: ObjectNumber, object: &Object) -> bool
-    ensures { result ≡ holds (marked knot.now) free thread number object.now }
+/// Whether no handle has the right to signal the object.
+fn is_free(core: &Core, number: ObjectNumber) -> bool
+    ensures { result ≡ not (is_given (state core.now) modify_state number) }
+{
+    !is_given(core, Access::MODIFY_STATE, number)
+}
+
+/// Whether only a thread of the knot can have the object signaled for this thread, or nothing can.
+fn holds(
+    core: &Core,
+    knot: &[bool],
+    thread: ThreadId,
+    number: ObjectNumber,
+    object: &Object,
+) -> bool
+    ensures { result ≡ holds (marked knot.now) (not (is_given (state core.now) modify_state number))
+        thread number object.now }
 {
     match object {
         Object::Mutex {
@@ -24,13 +39,13 @@ fn holds(knot: &[bool], free: bool, thread: ThreadId, number: ObjectNumber, obje
             abandoned: _,
         } => is_marked(knot, u32::from(owner.get())) && *owner != thread,
         Object::Thread { ended } => is_marked(knot, number.get()) && !*ended,
-        Object::Event { manual: _, set } => free && !*set,
-        Object::Semaphore { count, maximum: _ } => free && *count <= 0,
+        Object::Event { manual: _, set } => !*set && is_free(core, number),
+        Object::Semaphore { count, maximum: _ } => *count <= 0 && is_free(core, number),
         Object::Timer {
             manual: _,
             set,
-            armed: None,
-        } => free && !*set,
+            armed: _,
+        } => !(will_come(object.due()) || *set) && is_free(core, number),
         Object::Gone => true,
         _ => false,
     }
@@ -41,7 +56,7 @@ fn held_at(core: &Core, knot: &[bool], thread: ThreadId, number: ObjectNumber) -
     ensures { result ≡ held_at (state core.now) (marked knot.now) thread number }
 {
     match core.objects().get(number.get() as usize) {
-        Some(object) => holds(knot, core.handles_of(number) == 0, thread, number, object),
+        Some(object) => holds(core, knot, thread, number, object),
         None => is_marked(knot, number.get()),
     }
 }
@@ -76,18 +91,36 @@ fn is_held(core: &Core, knot: &[bool], thread: ThreadId, wait: &Wait) -> bool
     }
 }
 
-/// Whether the thread waits, with no deadline and not alertable, for what the knot holds.
+/// Whether a timer will queue an APC to the thread, or a handle has the right to.
+fn is_in_reach(core: &Core, thread: ThreadId) -> bool
+    ensures { result ≡ is_in_reach (state core.now) thread }
+{
+    is_called_in_time(core.objects(), thread)
+        || is_given(
+            core,
+            Access::SET_CONTEXT,
+            ObjectNumber::new(u32::from(thread.get())),
+        )
+}
+
+/// Whether no deadline of this wait of the thread comes, no APC can end it, and the knot holds what it needs. For an alertable wait that
+/// pends no APC is queued: it would have ended.
+fn is_bound(core: &Core, knot: &[bool], thread: ThreadId, wait: &Wait) -> bool
+    ensures { result ≡ is_bound (state core.now) (marked knot.now) thread wait.now }
+{
+    !will_come(wait.deadline)
+        && !(wait.alertable && is_in_reach(core, thread))
+        && is_held(core, knot, thread, wait)
+}
+
+/// Whether the thread waits for what the knot holds, and neither a deadline nor an APC can end that.
 fn is_tied(core: &Core, knot: &[bool], thread: u32) -> bool
     requires { thread < (state core.now).threads }
     ensures { (result ≡ true) ↔ IsTied (marked knot.now) (state core.now) thread }
 {
     core.stands();
     match core.waits_for(thread) {
-        Some(wait) => {
-            wait.deadline.is_none()
-                && !wait.alertable
-                && is_held(core, knot, ThreadId::new(thread as u16), wait)
-        }
+        Some(wait) => is_bound(core, knot, ThreadId::new(thread as u16), wait),
         None => false,
     }
 }
@@ -106,8 +139,8 @@ fn first_untied(core: &Core, over: &[bool], knot: &[bool]) -> Option<u32>
     None
 }
 
-/// The threads of the greatest knot, by their numbers: each waits, with no deadline and not alertable, for what only others of them
-/// could release. None of them ever goes on (`knots_hold`). The marked threads make no call any more, and are of it.
+/// The threads of the greatest knot, by their numbers: each waits for what only others of them could release, or nothing, and neither a
+/// deadline nor an APC can end that. None of them ever goes on (`knots_hold`). The marked threads make no call any more, and are of it.
 pub fn greatest_knot(alloc: Global, core: &Core, over: &[bool]) -> Result<Vec<bool>, AllocError>
     ensures count { IfOk result (λ knot. length knot.items ≡ (state core.now).threads) }
     ensures knot { IfOk result (λ knot. IsGreatestKnot (unmarked over.now) (state core.now) knot.items) }

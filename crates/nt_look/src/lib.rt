@@ -5,17 +5,18 @@
 //!
 //! - **Stuck**: every thread that may still call waits, and time alone ends no wait. No deadline comes, armed timers satisfy none, and no
 //!   APC is queued or will be. Nobody is left who could signal anything ([`is_stuck`]).
-//! - **A knot**: threads that wait, with no deadline and not alertable, for what only they themselves could release: mutexes that
-//!   others of them own, the ends of others of them, and objects that nobody can signal any more ([`greatest_knot`]). Other threads may
-//!   run on, but none of them can untie it.
+//! - **A knot**: threads that wait for what only they themselves could release: mutexes that others of them own, the ends of others of
+//!   them, and objects that nobody can signal any more; neither a deadline nor an APC can end these waits ([`greatest_knot`]). Other
+//!   threads may run on, but none of them can untie it.
 //!
 //! Both are for good, as the laws say ([`stuck_stays`], [`knots_hold`]): whatever is called and however much time passes, none of these
-//! threads goes on. An event, a semaphore or a timer that a handle names is in no knot, since any thread may signal it. So a thread that
-//! waits for an event that nobody ever sets is no hang by itself while another thread runs: a verdict is never a false alarm.
+//! threads goes on. An event, a semaphore or a timer that a handle may signal is in no knot, since any thread may use that handle. So a
+//! thread that waits for an event that nobody ever sets is no hang by itself while another thread runs: a verdict is never a false alarm.
 #![tactic(auto)]
 
 mod knot;
 mod laws;
+mod rights;
 mod stuck;
 mod verdict;
 

@@ -1,7 +1,7 @@
 //! Whether nothing can end the waits there are.
 ghost use Rattle.std.specs.Prelude.{◌≡◌, ◌<◌, ◌↔◌, true};
 ghost use Rattle.nt_core.specs.Dispatcher.{state};
-ghost use Rattle.nt_look.specs.Hangs.{comes_in_time, fits_in_time, is_by, is_called_in_time, marked, unmarked, IsStuck};
+ghost use Rattle.nt_look.specs.Hangs.{will_come, comes_in_time, fits_in_time, is_by, will_call, is_called_in_time, marked, unmarked, IsStuck};
 ghost use Rattle.nt_look.specs.Deciding.{ends_by_time, IsHanging};
 ghost use Rattle.std.specs.List.{list_all, list_any};
 ghost use Rattle.nt_objects.specs.Object.{has_ended};
@@ -9,20 +9,30 @@ ghost use Rattle.nt_calls.specs.State.{object_at};
 
 use nt_core::Core;
 use nt_objects::Object;
-use nt_status::{ObjectNumber, ThreadId};
+use nt_status::{MAX_MOMENT, ObjectNumber, ThreadId};
 use nt_waits::Wait;
 
-/// Whether the object with this number is signaled for the thread, or is a timer that is armed.
-fn comes_in_time(objects: &[Object], thread: ThreadId, number: ObjectNumber) -> bool
-    ensures { result ≡ comes_in_time objects.now thread number }
+/// Whether there is such a moment, and it comes: none beyond the greatest does.
+pub(crate) fn will_come(moment: Option<u64>) -> bool
+    ensures { result ≡ will_come moment }
 {
-    match objects.get(number.get() as usize) {
-        Some(object) => object.signaled_for(thread) || object.due().is_some(),
+    match moment {
+        Some(moment) => moment <= MAX_MOMENT,
         None => false,
     }
 }
 
-/// Whether each of these objects is signaled for the thread, or a timer that is armed.
+/// Whether the object with this number is signaled for the thread, or is a timer that is armed and will be set.
+fn comes_in_time(objects: &[Object], thread: ThreadId, number: ObjectNumber) -> bool
+    ensures { result ≡ comes_in_time objects.now thread number }
+{
+    match objects.get(number.get() as usize) {
+        Some(object) => object.signaled_for(thread) || will_come(object.due()),
+        None => false,
+    }
+}
+
+/// Whether each of these objects is signaled for the thread, or a timer that is armed and will be set.
 fn all_come_in_time(objects: &[Object], thread: ThreadId, numbers: &[ObjectNumber]) -> bool
     ensures { result ≡ list_all (comes_in_time objects.now thread) numbers.now }
 {
@@ -62,18 +72,25 @@ fn is_by(thread: ThreadId, setter: Option<ThreadId>) -> bool
     }
 }
 
-/// Whether a timer is armed whose routine is this thread's.
-fn is_called_in_time(objects: &[Object], thread: ThreadId) -> bool
-    ensures { result ≡ is_called_in_time objects.now thread }
+/// Whether the object is a timer that is armed and will be set, and its routine is this thread's.
+fn will_call(thread: ThreadId, object: &Object) -> bool
+    ensures { result ≡ will_call thread object.now }
 {
-    objects.iter().any(|object| is_by(thread, object.setter()))
+    will_come(object.due()) && is_by(thread, object.setter())
 }
 
-/// Whether a deadline, an armed timer or its APC can end the wait of this thread.
+/// Whether a timer will queue an APC to this thread.
+pub(crate) fn is_called_in_time(objects: &[Object], thread: ThreadId) -> bool
+    ensures { result ≡ is_called_in_time objects.now thread }
+{
+    objects.iter().any(|object| will_call(thread, object))
+}
+
+/// Whether its deadline, an armed timer or a timer's APC can end the wait of this thread.
 fn ends_by_time(objects: &[Object], thread: ThreadId, wait: &Wait) -> bool
     ensures { result ≡ ends_by_time objects.now thread wait.now }
 {
-    wait.deadline.is_some()
+    will_come(wait.deadline)
         || fits_in_time(objects, thread, wait)
         || wait.alertable && is_called_in_time(objects, thread)
 }
