@@ -1,3 +1,7 @@
+pub mod Cutting
 pub mod LockKinds
 pub mod LockSeats
-pub mod Runs
+pub mod Telling
+pub mod WordCounts
+pub mod WordKinds
+pub mod WordSeats

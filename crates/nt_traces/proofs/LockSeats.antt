@@ -92,17 +92,17 @@ buffer_is (Buffer.Holds inside) = refl
 pub same_buffer : (a b : Buffer) → buffer_of a ≡ buffer_of b → a ≡ b
 same_buffer a b e = sym (buffer_is a) ∙ (ap buffer_back e ∙ buffer_is b)
 
-other_kept : {A : Type 0} (xs : List A) (t u : ℕ) (x d : A) → u ≢ t → get_or (set xs t x) u d ≡ get_or xs u d
+pub other_kept : {A : Type 0} (xs : List A) (t u : ℕ) (x d : A) → u ≢ t → get_or (set xs t x) u d ≡ get_or xs u d
 other_kept [] t u x d n = refl
 other_kept (y ∷ ys) zero zero x d n = absurd (n refl)
 other_kept (y ∷ ys) zero (suc u) x d n = refl
 other_kept (y ∷ ys) (suc t) zero x d n = refl
 other_kept (y ∷ ys) (suc t) (suc u) x d n = other_kept ys t u x d (λ e. n (ap suc e))
 
-put_here : {A : Type 0} (f : ℕ → A) (t u : ℕ) (x : A) → u ≡ t → put f t x u ≡ x
+pub put_here : {A : Type 0} (f : ℕ → A) (t u : ℕ) (x : A) → u ≡ t → put f t x u ≡ x
 put_here {A} f t u x e = ap (λ (b : Bool). if b then x else f u) (eq-eqb u t e)
 
-put_else : {A : Type 0} (f : ℕ → A) (t u : ℕ) (x : A) → u ≢ t → put f t x u ≡ f u
+pub put_else : {A : Type 0} (f : ℕ → A) (t u : ℕ) (x : A) → u ≢ t → put f t x u ≡ f u
 put_else {A} f t u x n = ap (λ (b : Bool). if b then x else f u) (ne_eqb u t n)
 
 -- one thread changes

@@ -1,12 +1,20 @@
 -- What a trace of the lock stands for: the same words as in nt_protocols' specs/Lock.antt, of a fixed number of threads.
-use Rattle.std.specs.Prelude.{◌≡◌, ◌≢◌, IsTrue, IsFalse, ℕ, ◌<◌, ◌+◌, Bool, true, false, List, [], length, get_or, take}
+use Rattle.std.specs.Prelude.{◌≡◌, ◌≢◌, IsTrue, IsFalse, ℕ, ◌<◌, Bool, true, false, List, [], ◌∷◌, length, get_or, Option, Some, None}
 use Rattle.nt_protocols.specs.Lock as Lock
-use Rattle.nt_protocols.specs.Threads.{put, Step, Can}
+use Rattle.nt_protocols.specs.Threads.{put, Step}
 use Rattle.nt_traces.specs.declared.lock.LockWord.{LockWord}
 use Rattle.nt_traces.specs.declared.lock.Buffer.{Buffer}
 use Rattle.nt_traces.specs.declared.lock.Place.{Place}
+use Rattle.nt_traces.specs.declared.lock.Frame.{Frame}
 use Rattle.nt_traces.specs.declared.lock.Seat.{Seat}
-use Rattle.nt_traces.specs.declared.lock.LockKind.{LockKind}
+use Rattle.nt_traces.specs.declared.lock_kinds.LockKind.{LockKind}
+use Rattle.nt_traces.specs.declared.lock_kinds.FavouredStep.{FavouredStep}
+use Rattle.nt_traces.specs.declared.lock_kinds.TakingStep.{TakingStep}
+use Rattle.nt_traces.specs.declared.lock_kinds.SleepingStep.{SleepingStep}
+use Rattle.nt_traces.specs.declared.lock_kinds.RevokingStep.{RevokingStep}
+use Rattle.nt_traces.specs.declared.lock_kinds.OwningStep.{OwningStep}
+use Rattle.nt_traces.specs.declared.lock_kinds.ArrivingStep.{ArrivingStep}
+use Rattle.nt_traces.specs.declared.lock_kinds.HandlingStep.{HandlingStep}
 use Rattle.nt_traces.specs.declared.lock.LockEvent.{LockEvent}
 use Rattle.nt_traces.specs.declared.lock_run.LockRun.{LockRun}
 use Rattle.nt_traces.specs.declared.lock_test.LockTest.{LockTest}
@@ -45,64 +53,101 @@ place_of Place.ToFavour = Lock.Place.ToFavour
 place_of Place.ToUnset = Lock.Place.ToUnset
 place_of Place.ToWake = Lock.Place.ToWake
 
+-- where a handler has interrupted its thread, and what handlers have
+abbrev pub frame_of : Frame → Lock.Frame
+frame_of Frame.AtStore = Lock.Frame.AtStore
+frame_of Frame.AtReload = Lock.Frame.AtReload
+frame_of Frame.AtWakeRevoker = Lock.Frame.AtWakeRevoker
+frame_of Frame.AtMark = Lock.Frame.AtMark
+frame_of Frame.AtPay = Lock.Frame.AtPay
+frame_of Frame.AtSleep = Lock.Frame.AtSleep
+frame_of Frame.AtWake = Lock.Frame.AtWake
+
+abbrev pub under_of : Option Frame → List Lock.Frame
+under_of None = []
+under_of (Some frame) = frame_of frame ∷ []
+
 -- a thread, and one that has not asked
 abbrev pub seat_of : Seat → Lock.Seat
-seat_of a = record { place = place_of a.place; inside = a.inside; buffer = buffer_of a.buffer; under = [] }
+seat_of a = record { place = place_of a.place; inside = a.inside; buffer = buffer_of a.buffer; under = under_of a.under }
 
 abbrev pub outside : Seat
-outside = record { place = Place.Out; inside = false; buffer = Buffer.Empty }
+outside = record { place = Place.Out; inside = false; buffer = Buffer.Empty; under = None }
 
 -- the protocol's state to which the trace has led: threads beyond the list have not asked
 abbrev pub state_of : LockRun → Lock.State
 state_of r = record { lock = lock_of r.lock; seats = λ t. seat_of (get_or r.seats.items t outside) }
 
 -- the step of the protocol that an event names, of t, and of u where it names another
+abbrev pub favoured_event : FavouredStep → ℕ → ℕ → Lock.Event
+favoured_event FavouredStep.SeesFavour t u = Lock.Event.SeesFavour t
+favoured_event FavouredStep.StoresInside t u = Lock.Event.StoresInside t
+favoured_event FavouredStep.Enters t u = Lock.Event.Enters t
+favoured_event FavouredStep.MissesFavour t u = Lock.Event.MissesFavour t
+favoured_event FavouredStep.StepsBack t u = Lock.Event.StepsBack t
+favoured_event FavouredStep.StepsOut t u = Lock.Event.StepsOut t
+favoured_event FavouredStep.KeepsFavour t u = Lock.Event.KeepsFavour t
+favoured_event FavouredStep.FindsRevoked t u = Lock.Event.FindsRevoked t
+favoured_event FavouredStep.WakesRevoker t u = Lock.Event.WakesRevoker t u
+favoured_event FavouredStep.WakesNoRevoker t u = Lock.Event.WakesNoRevoker t
+
+abbrev pub taking_event : TakingStep → ℕ → ℕ → Lock.Event
+taking_event TakingStep.Asks t u = Lock.Event.Asks t
+taking_event TakingStep.TakesFree t u = Lock.Event.TakesFree t
+taking_event TakingStep.TriesFree t u = Lock.Event.TriesFree t
+taking_event TakingStep.Revokes t u = Lock.Event.Revokes t u
+taking_event TakingStep.TriesFavoured t u = Lock.Event.TriesFavoured t u
+taking_event TakingStep.StopsLooking t u = Lock.Event.StopsLooking t
+taking_event TakingStep.MarksFree t u = Lock.Event.MarksFree t
+taking_event TakingStep.MarksFavoured t u = Lock.Event.MarksFavoured t u
+taking_event TakingStep.MarksHeld t u = Lock.Event.MarksHeld t
+
+abbrev pub sleeping_event : SleepingStep → ℕ → ℕ → Lock.Event
+sleeping_event SleepingStep.PaysOne t u = Lock.Event.PaysOne t u
+sleeping_event SleepingStep.PaysNobody t u = Lock.Event.PaysNobody t
+sleeping_event SleepingStep.FallsAsleep t u = Lock.Event.FallsAsleep t
+sleeping_event SleepingStep.FindsUnwanted t u = Lock.Event.FindsUnwanted t
+sleeping_event SleepingStep.Stirs t u = Lock.Event.Stirs t
+sleeping_event SleepingStep.Restarts t u = Lock.Event.Restarts t
+
+abbrev pub revoking_event : RevokingStep → ℕ → ℕ → Lock.Event
+revoking_event RevokingStep.PassesBarrier t u = Lock.Event.PassesBarrier t u false
+revoking_event RevokingStep.PassesBarrierOnce t u = Lock.Event.PassesBarrier t u true
+revoking_event RevokingStep.FindsOutside t u = Lock.Event.FindsOutside t u false
+revoking_event RevokingStep.FindsOutsideOnce t u = Lock.Event.FindsOutside t u true
+revoking_event RevokingStep.FindsInside t u = Lock.Event.FindsInside t u
+revoking_event RevokingStep.Declines t u = Lock.Event.Declines t u
+revoking_event RevokingStep.FallsAsleepOn t u = Lock.Event.FallsAsleepOn t u
+revoking_event RevokingStep.FindsLeft t u = Lock.Event.FindsLeft t u
+revoking_event RevokingStep.StirsOn t u = Lock.Event.StirsOn t u
+revoking_event RevokingStep.RestartsOn t u = Lock.Event.RestartsOn t u
+revoking_event RevokingStep.PutsBack t u = Lock.Event.PutsBack t u
+
+abbrev pub owning_event : OwningStep → ℕ → ℕ → Lock.Event
+owning_event OwningStep.StoresFirst t u = Lock.Event.StoresFirst t
+owning_event OwningStep.GainsFavour t u = Lock.Event.GainsFavour t
+owning_event OwningStep.MissesTaken t u = Lock.Event.MissesTaken t
+owning_event OwningStep.UnstoresInside t u = Lock.Event.UnstoresInside t
+owning_event OwningStep.GivesBack t u = Lock.Event.GivesBack t
+owning_event OwningStep.WakesOne t u = Lock.Event.WakesOne t u
+owning_event OwningStep.WakesNobody t u = Lock.Event.WakesNobody t
+
+abbrev pub arriving_event : ArrivingStep → ℕ → ℕ → Lock.Event
+arriving_event ArrivingStep.SetArrives t u = Lock.Event.StoreArrives t true
+arriving_event ArrivingStep.ClearArrives t u = Lock.Event.StoreArrives t false
+
+abbrev pub handling_event : HandlingStep → ℕ → ℕ → Lock.Event
+handling_event (HandlingStep.Interrupts frame) t u = Lock.Event.Interrupts t (frame_of frame)
+handling_event (HandlingStep.Resumes frame) t u = Lock.Event.Resumes t (frame_of frame) []
+
 abbrev pub event_of : LockKind → ℕ → ℕ → Lock.Event
-event_of LockKind.SeesFavour t u = Lock.Event.SeesFavour t
-event_of LockKind.StoresInside t u = Lock.Event.StoresInside t
-event_of LockKind.Enters t u = Lock.Event.Enters t
-event_of LockKind.MissesFavour t u = Lock.Event.MissesFavour t
-event_of LockKind.StepsBack t u = Lock.Event.StepsBack t
-event_of LockKind.StepsOut t u = Lock.Event.StepsOut t
-event_of LockKind.KeepsFavour t u = Lock.Event.KeepsFavour t
-event_of LockKind.FindsRevoked t u = Lock.Event.FindsRevoked t
-event_of LockKind.WakesRevoker t u = Lock.Event.WakesRevoker t u
-event_of LockKind.WakesNoRevoker t u = Lock.Event.WakesNoRevoker t
-event_of LockKind.Asks t u = Lock.Event.Asks t
-event_of LockKind.TakesFree t u = Lock.Event.TakesFree t
-event_of LockKind.TriesFree t u = Lock.Event.TriesFree t
-event_of LockKind.Revokes t u = Lock.Event.Revokes t u
-event_of LockKind.TriesFavoured t u = Lock.Event.TriesFavoured t u
-event_of LockKind.StopsLooking t u = Lock.Event.StopsLooking t
-event_of LockKind.MarksFree t u = Lock.Event.MarksFree t
-event_of LockKind.MarksFavoured t u = Lock.Event.MarksFavoured t u
-event_of LockKind.MarksHeld t u = Lock.Event.MarksHeld t
-event_of LockKind.PaysOne t u = Lock.Event.PaysOne t u
-event_of LockKind.PaysNobody t u = Lock.Event.PaysNobody t
-event_of LockKind.FallsAsleep t u = Lock.Event.FallsAsleep t
-event_of LockKind.FindsUnwanted t u = Lock.Event.FindsUnwanted t
-event_of LockKind.Stirs t u = Lock.Event.Stirs t
-event_of LockKind.Restarts t u = Lock.Event.Restarts t
-event_of LockKind.PassesBarrier t u = Lock.Event.PassesBarrier t u false
-event_of LockKind.PassesBarrierOnce t u = Lock.Event.PassesBarrier t u true
-event_of LockKind.FindsOutside t u = Lock.Event.FindsOutside t u false
-event_of LockKind.FindsOutsideOnce t u = Lock.Event.FindsOutside t u true
-event_of LockKind.FindsInside t u = Lock.Event.FindsInside t u
-event_of LockKind.Declines t u = Lock.Event.Declines t u
-event_of LockKind.FallsAsleepOn t u = Lock.Event.FallsAsleepOn t u
-event_of LockKind.FindsLeft t u = Lock.Event.FindsLeft t u
-event_of LockKind.StirsOn t u = Lock.Event.StirsOn t u
-event_of LockKind.RestartsOn t u = Lock.Event.RestartsOn t u
-event_of LockKind.PutsBack t u = Lock.Event.PutsBack t u
-event_of LockKind.StoresFirst t u = Lock.Event.StoresFirst t
-event_of LockKind.GainsFavour t u = Lock.Event.GainsFavour t
-event_of LockKind.MissesTaken t u = Lock.Event.MissesTaken t
-event_of LockKind.UnstoresInside t u = Lock.Event.UnstoresInside t
-event_of LockKind.GivesBack t u = Lock.Event.GivesBack t
-event_of LockKind.WakesOne t u = Lock.Event.WakesOne t u
-event_of LockKind.WakesNobody t u = Lock.Event.WakesNobody t
-event_of LockKind.SetArrives t u = Lock.Event.StoreArrives t true
-event_of LockKind.ClearArrives t u = Lock.Event.StoreArrives t false
+event_of (LockKind.Favoured step) t u = favoured_event step t u
+event_of (LockKind.Taking step) t u = taking_event step t u
+event_of (LockKind.Sleeping step) t u = sleeping_event step t u
+event_of (LockKind.Revoking step) t u = revoking_event step t u
+event_of (LockKind.Owning step) t u = owning_event step t u
+event_of (LockKind.Arriving step) t u = arriving_event step t u
+event_of (LockKind.Handling step) t u = handling_event step t u
 
 -- an event's step: the protocol's
 abbrev pub step : Lock.State → LockEvent → Step Lock.State
@@ -112,9 +157,13 @@ step s e = Lock.step s (event_of e.kind e.thread e.other)
 abbrev pub IsWithin : ℕ → LockEvent → Type 0
 IsWithin threads e = (e.thread < threads) × (e.other < threads)
 
--- the events before this place can come one after another from here, and then the one at this place can't
-abbrev pub IsFirstRefused : Lock.State → List LockEvent → ℕ → Type 0
-IsFirstRefused s es place = (place < length es) × Can step s (take place es) × (Can step s (take (place + 1) es) → ⊥)
+-- a run has room for it: no handler interrupts another
+abbrev pub RoomFor : List Lock.Frame → LockKind → Type 0
+RoomFor under (LockKind.Handling (HandlingStep.Interrupts frame)) = under ≡ []
+RoomFor under kind = Unit {0}
+
+abbrev pub HasRoom : Lock.State → LockEvent → Type 0
+HasRoom s e = RoomFor (s.seats e.thread).under e.kind
 
 -- whether such a step comes next: if so it has, and if not it can't, and nothing changes
 abbrev pub Reads : LockRun → Step Lock.State → LockRun → Bool → Type 0

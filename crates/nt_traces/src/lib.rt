@@ -6,13 +6,28 @@
 //! is a step of the protocol, of a fixed number of threads.
 #![tactic(auto)]
 
+mod entry;
+mod lines;
 mod lock;
+mod lock_kinds;
 mod lock_names;
 mod lock_run;
 mod lock_steps;
 mod lock_test;
 mod reading;
+mod word;
+mod word_names;
+mod word_run;
+mod word_steps;
 
-pub use lock::{Buffer, LockEvent, LockKind, LockWord, Place, Seat};
+pub use entry::MAX_THREADS;
+pub use lock::{Buffer, Frame, LockEvent, LockWord, Place, Seat};
+pub use lock_kinds::{
+    ArrivingStep, FavouredStep, HandlingStep, LockKind, OwningStep, RevokingStep, SleepingStep,
+    TakingStep,
+};
 pub use lock_run::LockRun;
-pub use reading::{MAX_THREADS, TraceFault, Verdict, read_trace};
+pub use reading::{TraceFault, Verdict, read_trace};
+pub use word::{MOST_SEATS, Word, WordEvent, WordKind, WordPlace, WordSeat};
+pub use word_run::WordRun;
+pub use word_steps::counts_tell_nothing;

@@ -1,5 +1,7 @@
 //! The words of a trace of the lock that favours a thread: the same as those of the protocol.
 
+use crate::lock_kinds::LockKind;
+
 /// What the lock says.
 #[derive(Clone, Copy, Debug, PartialEq, Eq)]
 pub enum LockWord {
@@ -42,62 +44,25 @@ pub enum Place {
     ToWake,
 }
 
-/// What there is of one thread. No handler of signals has interrupted it.
+/// Where a thread was that a handler of signals has interrupted, which may call.
+#[derive(Clone, Copy, Debug, PartialEq, Eq)]
+pub enum Frame {
+    AtStore,
+    AtReload,
+    AtWakeRevoker,
+    AtMark,
+    AtPay,
+    AtSleep,
+    AtWake,
+}
+
+/// What there is of one thread. A handler of signals may have interrupted it, and no other that handler.
 #[derive(Clone, Copy, Debug, PartialEq, Eq)]
 pub struct Seat {
     pub place: Place,
     pub inside: bool,
     pub buffer: Buffer,
-}
-
-/// What an event is. `..Once` is of a thread that only tries.
-#[derive(Clone, Copy, Debug, PartialEq, Eq)]
-pub enum LockKind {
-    SeesFavour,
-    StoresInside,
-    Enters,
-    MissesFavour,
-    StepsBack,
-    StepsOut,
-    KeepsFavour,
-    FindsRevoked,
-    WakesRevoker,
-    WakesNoRevoker,
-    Asks,
-    TakesFree,
-    TriesFree,
-    Revokes,
-    TriesFavoured,
-    StopsLooking,
-    MarksFree,
-    MarksFavoured,
-    MarksHeld,
-    PaysOne,
-    PaysNobody,
-    FallsAsleep,
-    FindsUnwanted,
-    Stirs,
-    Restarts,
-    PassesBarrier,
-    PassesBarrierOnce,
-    FindsOutside,
-    FindsOutsideOnce,
-    FindsInside,
-    Declines,
-    FallsAsleepOn,
-    FindsLeft,
-    StirsOn,
-    RestartsOn,
-    PutsBack,
-    StoresFirst,
-    GainsFavour,
-    MissesTaken,
-    UnstoresInside,
-    GivesBack,
-    WakesOne,
-    WakesNobody,
-    SetArrives,
-    ClearArrives,
+    pub under: Option<Frame>,
 }
 
 /// An event: the thread that does it, and the other one that it names, if it names one.

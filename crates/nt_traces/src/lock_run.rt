@@ -1,12 +1,12 @@
 //! A run of the lock that favours a thread, one event at a time.
 
-ghost use Rattle.std.specs.Prelude.{◌≡◌, ◌≢◌, ◌<◌, ◌≤◌, ◌↔◌, ℕ, IsTrue, IsFalse, IfOk, OnOk, length, true, false};
+ghost use Rattle.std.specs.Prelude.{◌≡◌, ◌∷◌, [], ◌≢◌, ◌<◌, ◌≤◌, ◌↔◌, ℕ, IsTrue, IsFalse, IfOk, OnOk, length, true, false};
 ghost use Rattle.nt_protocols.specs.Lock as Lock;
 ghost use Rattle.nt_protocols.specs.Threads.{put};
 ghost use Rattle.nt_traces.specs.LockMoves as Moves;
-ghost use Rattle.nt_traces.specs.LockTrace.{arrives, state_of, seat_of, place_of, lock_of, Reads, Holds};
+ghost use Rattle.nt_traces.specs.LockTrace.{arrives, frame_of, state_of, seat_of, place_of, lock_of, under_of, Reads, Holds};
 
-use crate::lock::{Buffer, LockWord, Place, Seat};
+use crate::lock::{Buffer, Frame, LockWord, Place, Seat};
 use crate::lock_test::LockTest;
 
 /// The lock and its threads, as the events that were read have led to them.
@@ -14,6 +14,21 @@ use crate::lock_test::LockTest;
 pub struct LockRun {
     pub(crate) lock: LockWord,
     pub(crate) seats: Vec<Seat>,
+}
+
+/// Where a thread is that a handler has interrupted.
+fn frame_place(frame: Frame) -> Place
+    ensures { place_of result ≡ Lock.frame_place (frame_of frame) }
+{
+    match frame {
+        Frame::AtStore => Place::ToStore,
+        Frame::AtReload => Place::ToReload,
+        Frame::AtWakeRevoker => Place::ToWakeRevoker,
+        Frame::AtMark => Place::ToMark,
+        Frame::AtPay => Place::ToPay,
+        Frame::AtSleep => Place::ToSleep,
+        Frame::AtWake => Place::ToWake,
+    }
 }
 
 impl LockRun {
@@ -140,6 +155,23 @@ impl LockRun {
     {
         self.goes(u, then);
         self.goes(t, to);
+    }
+
+    /// Its handler begins or ends: it is there, and has interrupted this.
+    fn frames(&mut self, t: usize, place: Place, under: Option<Frame>)
+        requires { t < length self.old.seats.items }
+        ensures state { state_of self.new ≡ Lock.frames (state_of self.old) t (place_of place) (under_of under) }
+        ensures len { length self.new.seats.items ≡ length self.old.seats.items }
+    {
+        let seat = self.seats[t];
+        self.set(
+            t,
+            Seat {
+                place,
+                under,
+                ..seat
+            },
+        );
     }
 
     /// Where a thread is that has given the lock back.
@@ -313,6 +345,47 @@ impl LockRun {
         let comes = self.seats[t].buffer == Buffer::Holds(inside);
         if comes {
             self.arrives(t, inside);
+        }
+        comes
+    }
+
+    /// A handler has interrupted thread t.
+    pub(crate) fn is_handling(&self, t: usize) -> bool
+        requires { t < length self.now.seats.items }
+        ensures { IsFalse result ↔ (((state_of self.now).seats t).under ≡ []) }
+    {
+        self.seats[t].under.is_some()
+    }
+
+    /// A handler has interrupted thread t where it was so.
+    fn is_under(&self, t: usize, frame: Frame) -> bool
+        requires { t < length self.now.seats.items }
+        ensures { IsTrue result ↔ (((state_of self.now).seats t).under ≡ frame_of frame ∷ []) }
+    {
+        self.seats[t].under == Some(frame)
+    }
+
+    /// A handler begins.
+    pub(crate) fn interrupt(&mut self, t: usize, frame: Frame) -> bool
+        requires t { t < length self.old.seats.items }
+        requires room { ((state_of self.old).seats t).under ≡ [] }
+        ensures { Reads self.old (Lock.step (state_of self.old) (Lock.Event.Interrupts t (frame_of frame))) self.new result }
+    {
+        let comes = self.is_at(t, frame_place(frame));
+        if comes {
+            self.frames(t, Place::Out, Some(frame));
+        }
+        comes
+    }
+
+    /// It ends.
+    pub(crate) fn resume(&mut self, t: usize, frame: Frame) -> bool
+        requires { t < length self.old.seats.items }
+        ensures { Reads self.old (Lock.step (state_of self.old) (Lock.Event.Resumes t (frame_of frame) [])) self.new result }
+    {
+        let comes = self.is_at(t, Place::Out) && self.is_under(t, frame);
+        if comes {
+            self.frames(t, frame_place(frame), None);
         }
         comes
     }
