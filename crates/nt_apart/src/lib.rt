@@ -1,0 +1,27 @@
+// SPDX-License-Identifier: MIT OR Apache-2.0
+//! Which calls of two threads may be made in either order: steps that touch nothing in common commute.
+//!
+//! A search through the orders in which threads may make their calls need not try both orders of two calls that commute: it comes to the same
+//! state by each, with the same replies and the same grants. So what two calls touch decides, and these laws say where that is nothing in common:
+//!
+//! | Law | It says, of two threads |
+//! |---|---|
+//! | `changes_of_two_objects_commute` | a set, a reset, a release or an unlock, each of another object, for which no wait pends |
+//! | `calls_on_two_objects_commute` | the same of whole calls, by handles and rights, with the objects that end |
+//! | `waking_commutes` | one of the two may end any number of waits |
+//! | `waits_begin_in_either_order` | two waits that name no object in common, whatever comes of each |
+//! | `waits_begin_beside_changes` | a wait, and the change of an object that it does not name |
+//! | `waits_commute_with_changes` | the same as steps, with all that follows from a call |
+//! | `fewer_lanes_are_enough` | a search that leaves lanes out meets a shortest hang, if the lanes that it tries are enough |
+//!
+//! A law is the contract of a function that takes nothing and does nothing, as in `nt_laws`.
+#![tactic(auto)]
+
+mod lanes;
+mod steps;
+
+pub use lanes::fewer_lanes_are_enough;
+pub use steps::{
+    calls_on_two_objects_commute, changes_of_two_objects_commute, waits_begin_beside_changes,
+    waits_begin_in_either_order, waits_commute_with_changes, waking_commutes,
+};

@@ -1,0 +1,35 @@
+//! Steps of two threads that commute.
+ghost use Rattle.nt_apart.specs.Apart.{ChangesOfTwoObjectsCommute, CallsOnTwoObjectsCommute, WakingCommutes, WaitsBeginInEitherOrder, WaitsBeginBesideChanges, WaitsCommuteWithChanges};
+
+/// Two acts that change one object each, not the same, that no pending wait names, may be made in either order: the replies are the same, no
+/// wait ends, and the state after both is the same.
+pub fn changes_of_two_objects_commute()
+    ensures { ChangesOfTwoObjectsCommute }
+{}
+
+/// The same of whole calls: judged by their handles and rights, accepted, with the end of objects that nothing keeps.
+pub fn calls_on_two_objects_commute()
+    ensures { CallsOnTwoObjectsCommute }
+{}
+
+/// One of the two acts may end waits, as many as there are, if no pending wait names the object of the other: then too they may be made in
+/// either order, and each ends the same waits.
+pub fn waking_commutes()
+    ensures { WakingCommutes }
+{}
+
+/// Waits of two threads that name no object in common begin in either order: each is over at once or pends as it would alone, with the same
+/// status, and the state after both is the same.
+pub fn waits_begin_in_either_order()
+    ensures { WaitsBeginInEitherOrder }
+{}
+
+/// A wait begins before or after the change of an object that it does not name, with the same answer and the same state after both.
+pub fn waits_begin_beside_changes()
+    ensures { WaitsBeginBesideChanges }
+{}
+
+/// The same as steps: a wait, and an act on an object that neither it nor any pending wait names, may be made in either order.
+pub fn waits_commute_with_changes()
+    ensures { WaitsCommuteWithChanges }
+{}

@@ -1,0 +1,136 @@
+-- Files of decisions: what is written, and what is read.
+use Rattle.std.specs.Prelude.{◌≡◌, ℕ, ◌≤◌, ◌==◌, Bool, true, false, List, [], ◌∷◌, ◌++◌, Option, Some, None, if◌then◌else◌, codes}
+use Rattle.std.specs.List.{slice_split, join_with_byte}
+use Rattle.std.specs.Str.{bytes_eq}
+use Rattle.std.specs.Fmt.{decimal}
+use Rattle.nt_lines.specs.declared.words.TheConstants.{MAX_CALLER}
+use Rattle.nt_lines.specs.Words.{words_of, caller_of, digits_number}
+use Rattle.nt_grammar.specs.Spelling.{caller_word}
+use Rattle.nt_decisions.specs.declared.decision.Chosen.{Chosen}
+use Rattle.nt_decisions.specs.declared.decision.Decision.{Decision}
+use Rattle.nt_decisions.specs.declared.file.Schedule.{Schedule}
+use Rattle.nt_decisions.specs.declared.file.FileFault.{FileFault}
+
+-- ---- what is written
+
+-- `t` and the thread's number, or `clock`
+abbrev pub chosen_word : Chosen → List ℕ
+chosen_word (Chosen.Thread thread) = caller_word thread
+chosen_word Chosen.Clock = codes "clock"
+
+abbrev pub decision_words : Decision → List (List ℕ)
+decision_words it = caller_word it.thread ∷ decimal it.ordinal ∷ chosen_word it.chosen ∷ []
+
+-- the thread, which of its points that is, and who goes on
+abbrev pub decision_text : Decision → List ℕ
+decision_text it = join_with_byte 32 (decision_words it)
+
+-- a line for each
+abbrev pub lines_text : List Decision → List ℕ
+lines_text [] = []
+lines_text (it ∷ decisions) = decision_text it ++ 10 ∷ lines_text decisions
+
+abbrev pub first_text : Bool → List ℕ
+first_text is_free = if is_free then codes "; ntwin-schedule 1 time=free" else codes "; ntwin-schedule 1"
+
+abbrev pub file_text : Bool → List Decision → List ℕ
+file_text is_free decisions = first_text is_free ++ 10 ∷ lines_text decisions
+
+-- ---- what is read
+
+abbrev pub is_end : ℕ → Bool
+is_end byte = byte == 10
+
+-- its lines, without their ends
+abbrev pub lines_in : List ℕ → List (List ℕ)
+lines_in text = slice_split is_end text
+
+abbrev pub thread_in : Option ℕ → Option Chosen
+thread_in None = None
+thread_in (Some thread) = Some (Chosen.Thread thread)
+
+abbrev pub chosen_in : List ℕ → Option Chosen
+chosen_in word = if bytes_eq word (codes "clock") then Some Chosen.Clock else thread_in (caller_of word)
+
+abbrev pub joined : Option ℕ → Option ℕ → Option Chosen → Option Decision
+joined None ordinal chosen = None
+joined (Some thread) None chosen = None
+joined (Some thread) (Some ordinal) None = None
+joined (Some thread) (Some ordinal) (Some chosen) = Some (record { thread = thread; ordinal = ordinal; chosen = chosen })
+
+-- a thread, a number of nine digits at the most, and who goes on
+abbrev pub parts_in : List ℕ → List ℕ → List ℕ → Option Decision
+parts_in thread ordinal chosen = joined (caller_of thread) (digits_number 9 ordinal) (chosen_in chosen)
+
+abbrev pub decision_in : List (List ℕ) → Option Decision
+decision_in [] = None
+decision_in (thread ∷ []) = None
+decision_in (thread ∷ ordinal ∷ []) = None
+decision_in (thread ∷ ordinal ∷ chosen ∷ []) = parts_in thread ordinal chosen
+decision_in (thread ∷ ordinal ∷ chosen ∷ more ∷ words) = None
+
+abbrev pub pushed : List Decision → Option Decision → Option (List Decision)
+pushed decisions None = None
+pushed decisions (Some it) = Some (decisions ++ it ∷ [])
+
+-- a line after these decisions: nothing, a comment, or one decision more
+abbrev pub entry_in : List Decision → List ℕ → Option (List Decision)
+entry_in decisions [] = Some decisions
+entry_in decisions (first ∷ bytes) = if first == 59 then Some decisions else pushed decisions (decision_in (words_of (first ∷ bytes)))
+
+-- the decisions once these lines were read too; none where one is no line
+abbrev pub read_on : Option (List Decision) → List (List ℕ) → Option (List Decision)
+read_on None lines = None
+read_on (Some decisions) [] = Some decisions
+read_on (Some decisions) (line ∷ lines) = read_on (entry_in decisions line) lines
+
+-- whether the time is free, by the first line
+abbrev pub free_in : List ℕ → Option Bool
+free_in line =
+    if bytes_eq line (codes "; ntwin-schedule 1") then Some false
+    else if bytes_eq line (codes "; ntwin-schedule 1 time=free") then Some true
+    else None
+
+abbrev pub both : Option Bool → Option (List Decision) → Option (Bool × List Decision)
+both None decisions = None
+both (Some is_free) None = None
+both (Some is_free) (Some decisions) = Some (is_free, decisions)
+
+abbrev pub file_of : List (List ℕ) → Option (Bool × List Decision)
+file_of [] = None
+file_of (line ∷ lines) = both (free_in line) (read_on (Some []) lines)
+
+-- what a text says as a file of decisions
+abbrev pub file_in : List ℕ → Option (Bool × List Decision)
+file_in text = file_of (lines_in text)
+
+abbrev pub schedule_of : Schedule → Bool × List Decision
+schedule_of it = (it.is_free, it.decisions.items)
+
+-- it is read as nothing, or memory was refused
+abbrev pub IsFault : {X : Type 0} → FileFault → Option X → Type 0
+IsFault FileFault.FirstLine read = read ≡ None
+IsFault FileFault.Line read = read ≡ None
+IsFault FileFault.Memory read = Unit {0}
+
+-- the text is this line, a line feed and that text, or the line alone; it is read as with a line feed
+pub record EndsLine (text line left : List ℕ) : Type 0 where
+  pub lines : (read : Option (List Decision)) → read_on read (lines_in text) ≡ read_on read (line ∷ lines_in left)
+  pub file : file_in text ≡ file_of (line ∷ lines_in left)
+
+-- ---- what follows
+
+-- its numbers have nine digits at the most
+pub record IsWritable (it : Decision) : Type 0 where
+  pub thread : it.thread ≤ MAX_CALLER
+  pub ordinal : it.ordinal ≤ MAX_CALLER
+  pub chosen : (thread : ℕ) → it.chosen ≡ Chosen.Thread thread → thread ≤ MAX_CALLER
+
+abbrev pub AreWritable : List Decision → Type 0
+AreWritable [] = Unit {0}
+AreWritable (it ∷ decisions) = IsWritable it × AreWritable decisions
+
+-- what was written is read back
+abbrev pub WrittenIsRead : Type 0
+WrittenIsRead =
+    (is_free : Bool) (decisions : List Decision) → AreWritable decisions → file_in (file_text is_free decisions) ≡ Some (is_free, decisions)

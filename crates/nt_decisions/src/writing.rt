@@ -1,0 +1,78 @@
+//! A file, as it is written.
+
+ghost use Rattle.std.specs.Prelude.{◌≡◌, ◌++◌, ◌∷◌, [], OnOk, IfOk, decimal};
+ghost use Rattle.nt_grammar.specs.Spelling.{caller_word};
+ghost use Rattle.nt_decisions.specs.Decisions.{chosen_word, decision_text, lines_text, first_text, file_text};
+
+use crate::decision::{CLOCK, Chosen, Decision};
+use crate::file::{FIRST_LINE, FIRST_LINE_FREE};
+use itoa::Buffer;
+use std::alloc::{AllocError, Global};
+
+fn put_number(out: &mut Vec<u8>, number: u64) -> Result<(), AllocError>
+    ensures { OnOk result (out.new.items ≡ out.old.items ++ decimal number) }
+{
+    let mut buffer = Buffer::new();
+    out.extend_from_slice(buffer.format(number).as_bytes())
+}
+
+fn put_thread(out: &mut Vec<u8>, thread: u32) -> Result<(), AllocError>
+    ensures { OnOk result (out.new.items ≡ out.old.items ++ caller_word thread) }
+{
+    out.extend_from_slice(b"t")?;
+    put_number(out, u64::from(thread))
+}
+
+fn put_chosen(out: &mut Vec<u8>, chosen: Chosen) -> Result<(), AllocError>
+    ensures { OnOk result (out.new.items ≡ out.old.items ++ chosen_word chosen) }
+{
+    match chosen {
+        Chosen::Thread(thread) => put_thread(out, thread),
+        Chosen::Clock => out.extend_from_slice(CLOCK),
+    }
+}
+
+fn put_decision(out: &mut Vec<u8>, decision: Decision) -> Result<(), AllocError>
+    ensures { OnOk result (out.new.items ≡ out.old.items ++ (decision_text decision ++ 10 ∷ [])) }
+{
+    put_thread(out, decision.thread)?;
+    out.extend_from_slice(b" ")?;
+    put_number(out, decision.ordinal)?;
+    out.extend_from_slice(b" ")?;
+    put_chosen(out, decision.chosen)?;
+    out.extend_from_slice(b"\n")
+}
+
+fn put_first(out: &mut Vec<u8>, is_free: bool) -> Result<(), AllocError>
+    ensures { OnOk result (out.new.items ≡ out.old.items ++ (first_text is_free ++ 10 ∷ [])) }
+{
+    if is_free {
+        out.extend_from_slice(FIRST_LINE_FREE)?;
+    } else {
+        out.extend_from_slice(FIRST_LINE)?;
+    }
+    out.extend_from_slice(b"\n")
+}
+
+fn put_decisions(out: &mut Vec<u8>, decisions: &[Decision]) -> Result<(), AllocError>
+    ensures { OnOk result (out.new.items ≡ out.old.items ++ lines_text decisions.now) }
+{
+    for decision in decisions {
+        put_decision(out, *decision)?;
+    }
+    Ok(())
+}
+
+/// Writes a file of decisions.
+pub fn write_schedule(
+    alloc: Global,
+    is_free: bool,
+    decisions: &[Decision],
+) -> Result<Vec<u8>, AllocError>
+    ensures { IfOk result (λ text. text.items ≡ file_text is_free decisions.now) }
+{
+    let mut out = Vec::new(alloc);
+    put_first(&mut out, is_free)?;
+    put_decisions(&mut out, decisions)?;
+    Ok(out)
+}

@@ -1,0 +1,4 @@
+pub mod Paths
+pub mod Branches
+pub mod WhoGoesOn
+pub mod Deadlines
