@@ -12,7 +12,7 @@ enum kind { EVENT, SEMAPHORE, MUTEX, TIMER, THREAD };
 enum { MOST_OBJECTS = 65536, NOBODY = -1, WOKEN_LATER = 64 };
 #define NOWHERE UINT32_MAX
 
-/* How often a thread looks at its word before it sleeps: half as often where that was in vain, and again in 2 of so many waits. */
+/* How often a thread looks at its word before it sleeps: half as often where that was in vain, and again in 2 of a number of waits. */
 enum { LOOKS = 1000, TRIES = 2, WAITS_A_TRY = 4096 };
 
 /* What a thread's word says: the status of its wait that ended, or that it pends and its thread looks (PENDED) or sleeps. */
@@ -90,7 +90,7 @@ INLINE void leave(struct dispatcher *d) {
 
 /* ---- the journal */
 
-/* Whether it has no room for so many rows and one for the end of each wait that pends. */
+/* Whether it has no room for that number of rows and one for the end of each wait that pends. */
 INLINE bool is_full(const struct dispatcher *d, uint32_t rows) { return rarely(d->places && d->rows + rows + d->pending > d->places); }
 
 INLINE struct row *write_row(struct dispatcher *d, enum call call, uint32_t who, uint32_t object, int32_t count, int32_t answer, uint64_t moment) {

@@ -31,7 +31,7 @@ enum { HANDLES_A_ROW = sizeof(struct row) / sizeof(uint32_t), MOST_ROWS = 1 + (M
 
 struct dispatcher;
 
-/* A dispatcher of so many threads; without a journal where it has room for 0 rows, without a lock where it is for one caller. */
+/* A dispatcher of n threads; without a journal where it has room for 0 rows, without a lock where it is for one caller. */
 struct dispatcher *open_dispatcher(uint32_t threads, size_t rows, bool locked);
 void close_dispatcher(struct dispatcher *d);
 

@@ -29,7 +29,7 @@ static uint64_t now(void) {
 /* What a shape was given, and what it made. */
 struct run { uint32_t size; uint64_t rounds, calls, grants, nanos; };
 
-/* A dispatcher of so many threads, or of a crowd: then with objects that no call touches. The journal has room for so many rows, and more. */
+/* A dispatcher of n threads, or of a crowd: then with objects that no call touches. The journal has room for that number of rows, and more. */
 static struct dispatcher *stage(uint32_t threads, bool crowd, size_t rows, bool journal, bool locked) {
     uint32_t all = crowd ? CROWD_THREADS : threads;
     struct dispatcher *d = some(open_dispatcher(all, journal ? rows + CROWD_OBJECTS + 1000 : 0, locked));

@@ -127,7 +127,7 @@ def is_tied(machine, knot, who):
 
 
 def knot_of(machine, callers):
-    """The greatest knot: whoever makes no call any more is of it."""
+    """The greatest knot: whoever makes no further call is of it."""
     knot = set(range(machine.threads))
     while loose := {who for who in knot & callers if not is_tied(machine, knot, who)}:
         knot -= loose
@@ -265,9 +265,11 @@ def counted(count, what):
 
 
 def status_name(status):
-    if status < 64:
-        return f"WAIT_OBJECT_0+{status}"
-    return f"WAIT_ABANDONED_0+{status - 128}" if status < 192 else {0xC0: "WAIT_IO_COMPLETION", 0x102: "WAIT_TIMEOUT"}[status]
+    """How a wait ended, by name: that of the first object has no number after it."""
+    if status >= 192:
+        return {0xC0: "WAIT_IO_COMPLETION", 0x102: "WAIT_TIMEOUT"}[status]
+    first, index = ("WAIT_OBJECT_0", status) if status < 64 else ("WAIT_ABANDONED_0", status - 128)
+    return f"{first}+{index}" if index else first
 
 
 def answer_name(answer):

@@ -38,13 +38,13 @@ static uint64_t now(void)
 
 static uint64_t ROUNDS;
 
-/* Tells how long so many calls took. */
+/* Writes how long that number of calls took. */
 static void tell(const char *what, uint64_t calls, uint64_t took)
 {
     printf("%s: %llu calls, %llu ps a call\n", what, (unsigned long long)calls, (unsigned long long)(took * 1000 / calls));
 }
 
-/* Makes a round, which is so many calls, ROUNDS times, and this several times over; tells the least time. (Another process may take the
+/* Makes a round, which is a number of calls, ROUNDS times, and this several times over; writes the least time. (Another process may take the
    processor in the midst of one.) */
 #define TIME(what, calls, ...) \
     do { \
@@ -130,7 +130,7 @@ static void event_beside(const char *name) { beside(event_rounds, name); }
 static void mutex_beside(const char *name) { beside(mutex_rounds, name); }
 static void semaphore_beside(const char *name) { beside(semaphore_rounds, name); }
 
-/* Waits for so many events: for any, where the last one alone is set, or for all, where each one is. */
+/* Waits for that number of events: for any, where the last one alone is set, or for all, where each one is. */
 static void wait_for(const char *name, DWORD count, BOOL all)
 {
     HANDLE events[MANY];

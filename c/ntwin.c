@@ -26,6 +26,8 @@
 
 #include "ntwin/noted.c"
 
+#include "schedule/calls.c"
+
 #include "ntwin/looked.c"
 
 #include "ntwin/lock.c"
@@ -142,6 +144,8 @@
 #include "schedule/run.c"
 
 #include "schedule/turns.c"
+
+#include "schedule/sleep_sets.c"
 
 #include "schedule/strategies.c"
 

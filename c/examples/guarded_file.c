@@ -1,5 +1,5 @@
 /* Four threads write records of three lines into one file. A mutex keeps the lines of a record together. The last thread ends while it
- * owns the mutex, in the middle of a record: the next owner is told so by WAIT_ABANDONED, and mends the file before it goes on. */
+ * owns the mutex, in the middle of a record: the next owner learns that by WAIT_ABANDONED, and mends the file before it goes on. */
 #include <windows.h>
 
 #include <stdio.h>

@@ -73,6 +73,18 @@ DECLARED(void, __tsan_vptr_update, (void **at, void *value))
         TOUCH(at, sizeof *at, WRITES);
 }
 
+/* Copies, which clang calls by these names from version 15 on. (What gcc copies it names above; clang before that does not say.) */
+#define COPIES(name, parameters, first, second) \
+    DECLARED(void *, __tsan_##name, parameters) \
+    { \
+        first; \
+        second; \
+        return __builtin_##name(to, from, size); \
+    }
+COPIES(memcpy, (void *to, const void *from, size_t size), TOUCH(from, size, READS), TOUCH(to, size, WRITES))
+COPIES(memmove, (void *to, const void *from, size_t size), TOUCH(from, size, READS), TOUCH(to, size, WRITES))
+COPIES(memset, (void *to, int from, size_t size), TOUCH(to, size, WRITES), (void)0)
+
 DECLARED(void, __tsan_init, (void)) {}
 DECLARED(void, __tsan_func_entry, (void *from)) { (void)from; }
 DECLARED(void, __tsan_func_exit, (void)) {}

@@ -146,7 +146,7 @@ static inline BOOL finish(struct seat *seat, uint32_t refused)
     return TRUE;
 }
 
-/* The same where the dispatcher was asked nothing, or has refused: what its last call has ended was told already. */
+/* The same where the dispatcher was asked nothing, or has refused: what its last call has ended was reported already. */
 static inline BOOL end_look(struct seat *seat, uint32_t refused)
 {
     unlock_and_wake(seat);

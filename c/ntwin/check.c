@@ -75,7 +75,7 @@ static void check_waiting(void)
     holds(next >= found.deadline || waiting.timers_due <= next, "no timer is due before that");
 }
 
-/* Whether the last call has told nobody anything. */
+/* Whether the last call named nobody. */
 static void check_told_nobody(void)
 {
     struct nt_told told;

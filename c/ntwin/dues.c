@@ -10,7 +10,7 @@ static uint64_t due_of(uint32_t object)
     return nt_object(&waiting.dispatcher, object, &timer) == 0 && timer.armed ? timer.due : NEVER;
 }
 
-/* When the first of the timers that the thread minds is due, under the lock; NEVER where none is. Those that are set no more, or by another
+/* When the first of the timers that the thread minds is due, under the lock; NEVER where none is. Those that are no longer set, or by another
  * thread, it minds no longer. */
 static uint64_t first_minded(struct seat *seat)
 {

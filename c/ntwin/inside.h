@@ -56,8 +56,9 @@
 /* The steps of the protocols of `nt_protocols`, by name. A test tells them as a trace (tests/schedules/trace.h); else these are nothing at all. */
 #ifndef STEP
 #define STEP(protocol, word, ...) ((void)0)               /* the thread's last step on this word; null: it does nothing on any */
-#define STEP_OF(seat, protocol, word, ...) ((void)0)      /* the same, the first in which this seat's thread takes the lock */
+#define STEP_OF(seat, protocol, word, ...) ((void)0)      /* the same, the first of what this seat's thread does */
 #define STEP_NEXT(seat) ((void)0)                         /* this seat's thread is to take the lock */
+#define STEP_AS(protocol, name, other) ((void)0)          /* the thread's next step of this name is that other one */
 #define STEP_BEYOND(protocol, ...) ((void)0)              /* another thread has passed a barrier */
 #define TO_SLEEP(protocol, word, ...) ((void)0)           /* the names of what may become of the thread's next sleep on this word */
 #define TO_WAKE(protocol, word, ...) ((void)0)            /* and of its next wake-up: that it wakes one, or nobody */
@@ -67,7 +68,7 @@
 #ifndef LOOKS_AT_LOCK
 #define LOOKS_AT_LOCK 40   /* at the lock: about as long as falling asleep and waking take */
 #define LOOKS_AT_WORD 1000 /* at its own word: longer than a thread that sleeps takes to wake */
-#define WAITS_PER_TRY 4096 /* once in so many waits, those of all threads together, 2 of them try again whether looks help */
+#define WAITS_PER_TRY 4096 /* of this number of waits, of all threads together, 2 try again whether looks help */
 #endif
 
 /* How often in a row a thread takes the lock before that favours it, at the least and at the most, and how often it takes it then so that this pays
@@ -107,7 +108,7 @@ enum {
     IS_GRANTED
 };
 
-/* What is told of a thread, and changes nothing. */
+/* Facts about a thread that have no effect on waiting. */
 struct life {
     DWORD id;                /* as GetCurrentThreadId answers it */
     pid_t task;              /* the system's number of it */
@@ -143,12 +144,12 @@ struct seat {
     uint32_t number;         /* the thread's, which is also the seat's place among all */
     uint32_t handle;         /* the number of its own handle, which no program sees */
     struct nt_reply reply;   /* what its last call was answered */
-    struct nt_told told;     /* the last of those whom its last call told something */
-    uint64_t moment;         /* to which it sleeps by itself where its wait pends: NEVER until it is told; 0 where it was called */
+    struct nt_told told;     /* the last of those that its last call named */
+    uint64_t moment;         /* to which it sleeps by itself where its wait pends: NEVER until that is known; 0 where it was called */
     uint64_t timer_due;      /* when the first of the timers that it wakes for is due (dues.c): it sleeps no longer than to then; or NEVER */
     bool watches;            /* its wait pends, and a timer may end it for which it may not wake by itself */
     bool minds;              /* its wait pends, is alertable, and these timers with its routines may end it: */
-    uint32_t minded;         /* so many */
+    uint32_t minded;         /* how many */
     uint32_t timers[MINDED_AT_MOST];
     bool is_gone;            /* it was canceled as it waited, and never wakes */
     bool has_more_routines;  /* it has set more timers with a routine than it minds */
@@ -157,7 +158,7 @@ struct seat {
     _Atomic uint32_t suspended; /* how often the thread, which has not begun, is suspended */
     bool has_left;           /* it has ended, with this exit code: */
     DWORD exit_code;
-    struct life life;        /* what is told of it (win32/threads.c) */
+    struct life life;        /* what its handles answer (win32/threads.c) */
     struct runner *runner;   /* of a thread of CreateThread that has not left */
     struct seat *next;       /* among the spare seats */
     uint32_t looks;          /* how often it looks at its word before it sleeps: 0 where that was in vain of late */
@@ -165,10 +166,10 @@ struct seat {
     const void *calls_at;    /* and the call under way, where that is noted (noted.c); */
     struct registers registers; /* and its registers then */
     bool tells;              /* its call has tied a knot, of which it tells as it gives the lock back */
-    uint32_t woken[WOKEN_LATER]; /* the first of the threads that its call has told something while they slept, by their numbers */
+    uint32_t woken[WOKEN_LATER]; /* the first of the threads that its call found asleep and has to wake, by their numbers */
 };
 
-/* What is told of a thread that has ended, once its place is another's: its seat as it was, for the handles that still name the thread. */
+/* What is known of a thread that has ended, once its place is another's: its seat as it was, for the handles that still name the thread. */
 struct past {
     struct seat seat;
     uint32_t handles; /* how many these are */
@@ -188,7 +189,7 @@ struct own {
     struct port *port; /* the completion port whose packet it has; null before it got one, and once it asks for the next */
     bool rests;        /* it sleeps with that packet, and does not count among those that run */
     bool has_turn;     /* it forks, and nobody tells meanwhile why threads wait */
-    DWORD mark;        /* its id once it has entered a critical section, by which it enters the next; 0 where a sanitizer is told of each */
+    DWORD mark;        /* its id once it has entered a critical section, by which it enters the next; 0 where a sanitizer learns of each */
 };
 #ifndef own
 static _Thread_local struct own own __attribute__((tls_model("initial-exec")));
@@ -209,9 +210,9 @@ static struct {
 } process = { .opening = PTHREAD_MUTEX_INITIALIZER };
 
 /* What is kept under the lock. Whenever that is given back, this holds (check.c):
- *   - so many waits pend in the dispatcher as `pending` says, and the word of none of their threads is IS_GRANTED;
+ *   - as many waits pend in the dispatcher as `pending` says, and the word of none of their threads is IS_GRANTED;
  *   - each of their threads sleeps by itself no longer than to its own deadline, but one that was canceled as it waited;
- *   - the watchers are threads whose waits pend, and so many as `watchers` says;
+ *   - the watchers are threads whose waits pend, and as many as `watchers` says;
  *   - where there are watchers, some thread sleeps no longer than to the next moment at which anything is due;
  *   - who minds timers sleeps no longer than to the first of them, and some thread no longer than to `kept_to`;
  *   - no timer is due before `timers_due`;
@@ -241,7 +242,7 @@ static struct {
     uint32_t given[NT_MAXIMUM_HANDLES]; /* by number the program's handle, or that which was closed last, marked so (calls.c); */
     uint8_t kinds[NT_MAXIMUM_HANDLES]; /* of what each number names, or named last; */
     uint16_t threads[NT_MAXIMUM_HANDLES]; /* where that is a thread, which one; */
-    struct past *pasts[NT_MAXIMUM_HANDLES]; /* where its place is another's, what is told of it; else null; */
+    struct past *pasts[NT_MAXIMUM_HANDLES]; /* where its place is another's, what is known of it; else null; */
     struct named *named[NT_MAXIMUM_HANDLES]; /* where it has a name, which; else null; */
     struct port *ports[NT_MAXIMUM_HANDLES]; /* where it is a completion port, which; else null */
     uint16_t minders[NT_MAXIMUM_HANDLES]; /* of a timer, by its own number: the seat, from 1 on, whose thread set it last, with a routine; or 0 */

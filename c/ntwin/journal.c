@@ -3,14 +3,14 @@
  * mapped, so a line stays there however the process ends. What is not written yet are blank lines. All of this is under the lock. */
 
 enum {
-    JOURNAL_STEP = 1 << 20, /* the file grows by so many bytes */
+    JOURNAL_STEP = 1 << 20, /* the bytes by which the file grows */
     BLANK_LINE = 2048,      /* so long is a blank line (and one that is broken off goes on to its end, which a reader has to stand) */
-    LONGEST_LINE = 1024,    /* so many bytes are left for a line, and for one more that ends the journal */
+    LONGEST_LINE = 1024,    /* the bytes that are left for a line, and for one more that ends the journal */
     LONGEST_NAME = 64
 };
 
 static struct {
-    char *text;          /* null where no journal is written, or no more */
+    char *text;          /* null where no journal is written, or no longer */
     size_t length, room; /* of the text, and of what is mapped */
     int file;
     dev_t device;        /* which file that is: a program may close what it did not open */

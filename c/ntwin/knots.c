@@ -3,7 +3,7 @@
 
 static bool tells_knots; /* written before main */
 
-/* Marks those that make no call any more, or have made none yet. */
+/* Marks those that make no further call, or have made none yet. */
 static void mark_those_over(bool over[NT_MANY_THREADS])
 {
     for (uint32_t i = 0; i < waiting.places; i++)
@@ -43,8 +43,8 @@ static bool is_asleep_for_good(uint32_t thread)
     return nt_waits_for(&waiting.dispatcher, thread, &wait) == 0 && wait.count == 0;
 }
 
-/* Those of the knot that only wait for what others hold, of whom was told, are no knot of their own, and neither is one that sleeps. Answers
- * whether any is left. Of all these was told then. */
+/* Threads that only wait for a knot that was reported are no new knot, and neither is one that sleeps. Answers
+ * whether any is left. All these were reported then. */
 static bool is_new_knot(const bool *knot)
 {
     static bool told[NT_MANY_THREADS];

@@ -169,7 +169,7 @@ static void pass_barriers(void)
         sleep_on(&nobody, 0, &until);
 }
 
-/* A favour has ended that lasted for so many turns, under the lock. */
+/* A favour has ended that lasted for this number of turns, under the lock. */
 static void set_patience(uint32_t turns)
 {
     const bool has_paid = turns >= TURNS_THAT_PAY;
@@ -259,7 +259,7 @@ __attribute__((noinline, cold)) static void wait_for_lock(void)
     take_from(seen);
 }
 
-/* What a sanitizer is told of the lock. (These are functions so that a call keeps no register for them where there is none.) */
+/* What a sanitizer learns of the lock. (These are functions so that a call keeps no register for them where there is none.) */
 __attribute__((noinline, cold)) static void tell_of_taking(void)
 {
     comes_after(&waiting.lock);
@@ -309,7 +309,7 @@ static inline void take_lock(void)
  * of its thread that has the lock or takes it. */
 __attribute__((noinline)) static bool take_in_turn(struct seat *caller)
 {
-    may_switch();
+    may_switch_before_call();
     if (inside_of(caller) != 0 || takes_lock(caller)) {
         own.last_error = ERROR_POSSIBLE_DEADLOCK;
         return false;

@@ -30,8 +30,10 @@ static inline uint32_t looked_at(uint32_t refused, bool may_tie)
     struct nt_told told;
     if (refused == 0)
         note_ends();
-    if (tells_knots && refused == 0 && (may_tie || (waiting.pending != 0 && nt_told(&waiting.dispatcher, 0, &told) == 0)))
+    if (tells_knots && refused == 0 && (may_tie || (waiting.pending != 0 && nt_told(&waiting.dispatcher, 0, &told) == 0))) {
+        touch(&tells_knots, true);
         look_for_knot();
+    }
     return refused;
 }
 
@@ -55,16 +57,19 @@ static uint32_t looked_by_handle(uint32_t refused, uint32_t who, const char *wor
 
 static uint32_t look_exit(struct nt *nt, uint32_t who, struct nt_reply *reply)
 {
+    touch_by_exit(who);
     return looked_by_caller(nt_exit(nt, who, reply), who, WORD_EXIT);
 }
 
 static uint32_t look_next_apc(struct nt *nt, uint32_t who, struct nt_reply *reply)
 {
+    touch_by_wait(who, NULL, 0, true);
     return looked_by_caller(nt_next_apc(nt, who, reply), who, WORD_NEXT);
 }
 
 static uint32_t look_set_event(struct nt *nt, uint32_t who, uint32_t event, struct nt_reply *reply)
 {
+    touch_by_signal(event);
     const uint32_t refused = nt_set_event(nt, who, event, reply);
     note_deed(refused, event, WAS_SET, 0);
     return looked_by_handle(refused, who, WORD_SET " ", event, false);
@@ -72,6 +77,7 @@ static uint32_t look_set_event(struct nt *nt, uint32_t who, uint32_t event, stru
 
 static uint32_t look_reset_event(struct nt *nt, uint32_t who, uint32_t event, struct nt_reply *reply)
 {
+    touch_by_handle(event);
     const uint32_t refused = nt_reset_event(nt, who, event, reply);
     note_deed(refused, event, WAS_RESET, 0);
     return looked_by_handle(refused, who, WORD_RESET " ", event, false);
@@ -79,6 +85,7 @@ static uint32_t look_reset_event(struct nt *nt, uint32_t who, uint32_t event, st
 
 static uint32_t look_pulse_event(struct nt *nt, uint32_t who, uint32_t event, struct nt_reply *reply)
 {
+    touch_by_signal(event);
     const uint32_t refused = nt_pulse_event(nt, who, event, reply);
     note_deed(refused, event, WAS_PULSED, 0);
     return looked_by_handle(refused, who, WORD_PULSE " ", event, false);
@@ -86,16 +93,20 @@ static uint32_t look_pulse_event(struct nt *nt, uint32_t who, uint32_t event, st
 
 static uint32_t look_release_mutex(struct nt *nt, uint32_t who, uint32_t mutex, struct nt_reply *reply)
 {
+    touch_by_signal(mutex);
     return looked_by_handle(nt_release_mutex(nt, who, mutex, reply), who, WORD_UNLOCK " ", mutex, false);
 }
 
 static uint32_t look_cancel_timer(struct nt *nt, uint32_t who, uint32_t timer, struct nt_reply *reply)
 {
+    touch_by_handle(timer);
     return looked_by_handle(nt_cancel_timer(nt, who, timer, reply), who, WORD_CANCEL " ", timer, false);
 }
 
 static uint32_t look_close_handle(struct nt *nt, uint32_t who, uint32_t handle, struct nt_reply *reply)
 {
+    touch_by_creation();
+    touch_by_handle(handle);
     return looked_by_handle(nt_close_handle(nt, who, handle, reply), who, WORD_CLOSE " ", handle, waiting.pending != 0);
 }
 
@@ -130,6 +141,7 @@ static uint32_t look_create_event(struct nt *nt, uint32_t who, uint32_t flags, s
 {
     static const char *const words[] = { "", " " WORD_MANUAL, " " WORD_SET, " " WORD_MANUAL " " WORD_SET };
     uint32_t refused;
+    touch_by_creation();
     do
         refused = nt_create_event(nt, who, flags, reply);
     while (is_made_again(refused));
@@ -139,15 +151,19 @@ static uint32_t look_create_event(struct nt *nt, uint32_t who, uint32_t flags, s
 static uint32_t look_create_mutex(struct nt *nt, uint32_t who, uint32_t flags, struct nt_reply *reply)
 {
     uint32_t refused;
+    touch_by_creation();
     do
         refused = nt_create_mutex(nt, who, flags, reply);
     while (is_made_again(refused));
+    if (refused == 0)
+        touch_by_handle(reply->number);
     return looked_creation(refused, who, WORD_MUTEX " ", (flags & NT_MUTEX_INITIAL_OWNER) != 0 ? " " WORD_OWNED : "", reply);
 }
 
 static uint32_t look_create_timer(struct nt *nt, uint32_t who, uint32_t flags, struct nt_reply *reply)
 {
     uint32_t refused;
+    touch_by_creation();
     do
         refused = nt_create_timer(nt, who, flags, reply);
     while (is_made_again(refused));
@@ -169,6 +185,7 @@ static uint32_t look_create_semaphore(struct nt *nt, uint32_t who, int32_t initi
 {
     char words[48];
     uint32_t refused;
+    touch_by_creation();
     do
         refused = nt_create_semaphore(nt, who, initial, maximum, reply);
     while (is_made_again(refused));
@@ -179,6 +196,8 @@ static uint32_t look_duplicate(struct nt *nt, uint32_t who, uint32_t handle, uin
 {
     char words[48];
     uint32_t refused;
+    touch_by_creation();
+    touch_by_handle(handle);
     do
         refused = nt_duplicate(nt, who, handle, access, reply);
     while (is_made_again(refused));
@@ -187,6 +206,7 @@ static uint32_t look_duplicate(struct nt *nt, uint32_t who, uint32_t handle, uin
 
 static uint32_t look_release_semaphore(struct nt *nt, uint32_t who, uint32_t semaphore, int32_t count, struct nt_reply *reply)
 {
+    touch_by_signal(semaphore);
     const uint32_t refused = nt_release_semaphore(nt, who, semaphore, count, reply);
     note_deed(refused, semaphore, WAS_RELEASED, count);
     char *at = begin_call(refused, who, WORD_RELEASE " ");
@@ -207,6 +227,7 @@ static char *put_armed(char *at, uint32_t timer, int64_t due, int32_t period)
 
 static uint32_t look_set_timer(struct nt *nt, uint32_t who, uint32_t timer, int64_t due, int32_t period, struct nt_reply *reply)
 {
+    touch_by_handle(timer);
     const uint32_t refused = nt_set_timer(nt, who, timer, due, period, reply);
     char *at = begin_call(refused, who, WORD_ARM " ");
     if (at != NULL)
@@ -226,6 +247,7 @@ static char *put_routine(char *at, uint64_t routine, uint64_t argument)
 static uint32_t look_set_timer_apc(struct nt *nt, uint32_t who, uint32_t timer, int64_t due, int32_t period, uint64_t routine,
                                    uint64_t argument, struct nt_reply *reply)
 {
+    touch_by_handle(timer);
     const uint32_t refused = nt_set_timer_apc(nt, who, timer, due, period, routine, argument, reply);
     char *at = begin_call(refused, who, WORD_ARM " ");
     if (at != NULL)
@@ -235,6 +257,7 @@ static uint32_t look_set_timer_apc(struct nt *nt, uint32_t who, uint32_t timer, 
 
 static uint32_t look_queue_apc(struct nt *nt, uint32_t who, uint32_t thread, uint64_t routine, uint64_t argument, struct nt_reply *reply)
 {
+    touch_by_apc(thread);
     const uint32_t refused = nt_queue_apc(nt, who, thread, routine, argument, reply);
     char *at = begin_call(refused, who, WORD_APC " ");
     if (at != NULL)
@@ -252,6 +275,7 @@ static bool pends(uint32_t refused, const struct nt_reply *reply)
 static uint32_t look_wait_objects(struct nt *nt, uint32_t who, const uint32_t *handles, size_t count, bool all, uint32_t ms, bool alertable,
                                   struct nt_reply *reply)
 {
+    touch_by_wait(who, handles, count, alertable);
     const uint32_t refused = nt_wait_objects(nt, who, handles, count, all, ms, alertable, reply);
     note_answer(refused, who, handles, count, all, reply);
     char *at = begin_call(refused, who, all ? WORD_ALL : WORD_ANY);
@@ -262,6 +286,7 @@ static uint32_t look_wait_objects(struct nt *nt, uint32_t who, const uint32_t *h
 
 static uint32_t look_wait_object(struct nt *nt, uint32_t who, uint32_t handle, uint32_t ms, bool alertable, struct nt_reply *reply)
 {
+    touch_by_wait(who, &handle, 1, alertable);
     const uint32_t refused = nt_wait_object(nt, who, handle, ms, alertable, reply);
     note_answer(refused, who, &handle, 1, false, reply);
     char *at = begin_call(refused, who, WORD_ANY);
@@ -272,6 +297,7 @@ static uint32_t look_wait_object(struct nt *nt, uint32_t who, uint32_t handle, u
 
 static uint32_t look_sleep(struct nt *nt, uint32_t who, uint32_t ms, bool alertable, struct nt_reply *reply)
 {
+    touch_by_wait(who, NULL, 0, alertable);
     const uint32_t refused = nt_sleep(nt, who, ms, alertable, reply);
     note_answer(refused, who, NULL, 0, false, reply);
     char *at = begin_call(refused, who, WORD_SLEEP);
@@ -282,6 +308,8 @@ static uint32_t look_sleep(struct nt *nt, uint32_t who, uint32_t ms, bool alerta
 
 static uint32_t look_swap(struct nt *nt, uint32_t who, uint32_t signal, uint32_t object, uint32_t ms, bool alertable, struct nt_reply *reply)
 {
+    touch_by_signal(signal);
+    touch_by_wait(who, &object, 1, alertable);
     const uint32_t refused = nt_swap(nt, who, signal, object, ms, alertable, reply);
     note_signal(refused, signal);
     note_answer(refused, who, &object, 1, false, reply);
@@ -296,6 +324,7 @@ static uint32_t look_swap(struct nt *nt, uint32_t who, uint32_t signal, uint32_t
 
 static uint32_t look_tick(struct nt *nt, uint64_t moment)
 {
+    touch_by_tick(moment);
     const uint32_t refused = nt_tick(nt, moment);
     char *at = begin_line();
     if (at != NULL)

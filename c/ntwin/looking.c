@@ -255,7 +255,7 @@ static void stop_looking(void)
     telling_thread.has_blocked = false;
 }
 
-/* After all else: what was asked for by SIGQUIT is told to its end, and the journal's file ends where it does. */
+/* After all else: what was asked for by SIGQUIT is written to its end, and the journal's file ends where it does. */
 __attribute__((destructor(101))) static void end_looking(void)
 {
     if (take_turn_at_last())

@@ -218,6 +218,7 @@ BOOL SetWaitableTimer(HANDLE timer, const LARGE_INTEGER *due, LONG period, PTIME
     struct seat *seat = join();
     if (seat == NULL || !take_lock_for(seat))
         return FALSE;
+    STEP_OF(seat, word, NULL, Enters);
     const uint64_t now = pass_time(seat);
     const int64_t moment = time < 0 ? time : moment_of(time);
     const uint32_t number = number_of(seat, timer), refused = set_timer(seat, number, moment, period, routine, argument);

@@ -54,7 +54,7 @@ static int start_thread(struct seat *seat, SIZE_T stack, bool is_reserved)
     if (by_schedule() && error != 0)
         unschedule_thread(seat);
     pthread_attr_destroy(&attributes);
-    may_switch();
+    may_switch_at(NULL);
     return error;
 }
 

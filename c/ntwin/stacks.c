@@ -2,8 +2,8 @@
 /* ---- Who called where a thread waits, where NTWIN_WHY asks for that. As its wait pends, a thread notes its registers, which takes some nanoseconds.
  * A report copies, under the lock, what stands on its stack; and once the lock is given back it walks that from frame to frame as debuggers do, by the
  * tables that compilers write for exceptions (.eh_frame). So programs need no frame pointers. The copy may be of a thread that has left its wait by
- * a way of its own (a canceled one): so each address is looked for in the copy alone, and unless the walk comes to where the wait was called, nothing is
- * told. On x86-64; elsewhere no caller is told. */
+ * a way of its own (a canceled one): so each address is looked for in the copy alone, and unless the walk comes to where the wait was called, none is
+ * named. On x86-64; elsewhere no caller is. */
 
 enum { STACK_COPIED = 8192, STACKS_AT_MOST = 256, CALLERS_AT_MOST = 3, FRAMES_AT_MOST = 16, REGISTERS = 17, AT_RBP = 6, AT_RSP = 7, AT_RETURN = 16 };
 
@@ -12,7 +12,7 @@ struct stack {
     struct registers registers;
     const void *waits_at;
     LPTHREAD_START_ROUTINE start; /* with which the thread began; or null */
-    size_t count;                 /* so many bytes were copied */
+    size_t count;                 /* of bytes that were copied */
     unsigned char bytes[STACK_COPIED];
 };
 

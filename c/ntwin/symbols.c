@@ -36,11 +36,11 @@ struct loaded {
     char name[PATH_MAX];  /* empty for the program itself */
     size_t count;
     ElfW(Phdr) headers[HEADERS_AT_MOST];
-    size_t notes;         /* so many bytes are the notes in it, one after the other */
+    size_t notes;         /* the bytes of the notes in it, one after the other */
     char note[NOTES_AT_MOST];
 };
 
-/* Whether this is a note that is in memory, and there is room for it beside others of so many bytes. */
+/* Whether this is a note that is in memory, and there is room for it beside others with this sum of bytes. */
 static bool takes_note(const struct loaded *it, size_t others, const ElfW(Phdr) *note)
 {
     for (size_t i = 0; note->p_type == PT_NOTE && i < it->count; i++) {
@@ -99,7 +99,7 @@ static int find_file(struct dl_phdr_info *info, size_t size, void *at)
 
 /* ---- Reading the file. */
 
-/* Reads so many bytes at that offset. False where the file has not so many there. */
+/* Reads this number of bytes at that offset. False where the file has fewer there. */
 static bool read_image(const struct image *image, void *to, size_t count, uint64_t offset)
 {
     if (offset > image->size || count > image->size - offset)
@@ -119,7 +119,7 @@ static bool is_elf(const ElfW(Ehdr) *head)
     return memcmp(head->e_ident, ELFMAG, SELFMAG) == 0 && head->e_ident[EI_CLASS] == class;
 }
 
-/* Whether the notes stand in the file as they do in memory. (A file of the same layout that was built anew has another build id.) */
+/* Whether the notes stand in the file as they do in memory. (A file of the same layout that was built again has another build id.) */
 static bool has_same_notes(const struct image *image, const struct loaded *loaded)
 {
     char bytes[NOTES_AT_MOST];

@@ -17,7 +17,7 @@ static void add_spare(struct seat *seat, uint32_t handle)
     waiting.spare = seat;
 }
 
-/* Threads begin, under the lock, in the places of those that have left and that no handle names any longer. What the last call told was noted. */
+/* Threads begin, under the lock, in the places of those that have left and that no handle names any longer. What the last call reported was noted. */
 static void renew_seats(void)
 {
     struct nt_begun begun;
@@ -33,7 +33,7 @@ static bool is_open(uint32_t number)
     return waiting.given[number] != 0 && (waiting.given[number] & IS_CLOSED) == 0;
 }
 
-/* The thread that has left this seat is set aside, under the lock, and what is told of it goes to the handles that name it: so its place can be
+/* The thread that has left this seat is set aside, under the lock, and what is known of it goes to the handles that name it: so its place can be
  * another's. False if that can't be, since a wait that pends names the thread. */
 static bool set_aside(struct seat *seat, struct past *past)
 {
@@ -135,9 +135,10 @@ static void end_seat(struct seat *seat)
  * at the time in its place. */
 static void leave(struct seat *seat)
 {
-    may_switch();
+    may_switch_before_call();
     set_takes_lock(seat, true);
     take_lock();
+    STEP_OF(seat, word, NULL, Enters);
     see_to_the_overdue(seat);
     if (nt_close_handle(&waiting.dispatcher, seat->number, seat->handle, &seat->reply) == 0)
         note(seat);
@@ -146,6 +147,7 @@ static void leave(struct seat *seat)
         look_for_timers();
         end_seat(seat);
         wake_all(seat->woken, wakes_left());
+        STEP(word, NULL, Returns);
         renew_seats();
         give_lock();
         return;
@@ -192,7 +194,7 @@ static void leave_last(void *round)
 static void forget_other_threads(DWORD caller);
 
 /* A child is forked, and this is its only thread. If others had seats or were in a call, none of them is here to end what it began: the
- * child then has no seat any more, and gets none. */
+ * child then no longer has a seat, and gets none. */
 static void note_fork(void)
 {
     const bool is_opening = pthread_mutex_trylock(&process.opening) != 0;

@@ -12,7 +12,7 @@ static uint64_t next_due(void)
     return nt_due(&waiting.dispatcher, NT_GREATEST_MOMENT, &due) == 0 ? due : NEVER;
 }
 
-/* Timers may be due later than was known, under the lock: one is not set any more. */
+/* Timers may be due later than was known, under the lock: one is no longer set. */
 static void look_for_timers(void)
 {
     if (waiting.timers_due == NEVER)
@@ -26,12 +26,16 @@ static void look_for_timers(void)
 static void tell(struct seat *caller, struct seat *seat, uint32_t how)
 {
     comes_before(&seat->word);
-    if (atomic_exchange_explicit(&seat->word, how, memory_order_release) != IS_ASLEEP)
+    const uint32_t was = atomic_exchange_explicit(&seat->word, how, memory_order_release);
+    STEP(word, &seat->word, how == IS_GRANTED ? Grants : Calls, seat->number);
+    if (was != IS_ASLEEP)
         return;
-    if (waiting.wakes < WOKEN_LATER)
+    if (waiting.wakes < WOKEN_LATER) {
         caller->woken[waiting.wakes++] = seat->number;
-    else
+    } else {
+        TO_WAKE(word, &seat->word, Wakes, Wakes, seat->number);
         wake_one(&seat->word);
+    }
 }
 
 /* Sets to which moment the thread sleeps by itself, under the lock. It is awake when its own timer is due, whoever keeps the time till then. */
@@ -55,6 +59,7 @@ struct dues {
 static void fall_asleep(struct seat *seat, struct dues dues)
 {
     atomic_store_explicit(&seat->word, IS_AWAKE, memory_order_relaxed);
+    STEP(word, &seat->word, Begins);
     waiting.pending++;
     waiting.watchers += dues.watches;
     seat->watches = dues.watches;
@@ -63,7 +68,7 @@ static void fall_asleep(struct seat *seat, struct dues dues)
     set_moment(seat);
 }
 
-/* The thread is no watcher any more, under the lock, and minds no timer. */
+/* The thread is no longer a watcher, under the lock, and minds no timer. */
 static void stop_watching(struct seat *seat)
 {
     waiting.watchers -= seat->watches;
@@ -159,11 +164,12 @@ __attribute__((always_inline)) static inline bool lock(struct seat *caller)
 {
     if (!take_lock_for(caller))
         return false;
+    STEP_OF(caller, word, NULL, Enters);
     see_to_the_overdue(caller);
     return true;
 }
 
-/* How many threads the caller's call told something while they slept, under the lock. From now on the caller wakes them. */
+/* How many sleeping threads the caller's call has to wake, under the lock. From now on the caller wakes them. */
 static uint32_t wakes_left(void)
 {
     const uint32_t wakes = waiting.wakes;
@@ -171,11 +177,13 @@ static uint32_t wakes_left(void)
     return wakes;
 }
 
-/* Wakes those whom the caller's call told something. */
+/* Wakes those whose words the caller's call has written. */
 __attribute__((noinline)) static void wake_all(const uint32_t *woken, uint32_t wakes)
 {
-    for (uint32_t i = 0; i < wakes; i++)
+    for (uint32_t i = 0; i < wakes; i++) {
+        TO_WAKE(word, &waiting.seats[woken[i]].word, Wakes, Wakes, woken[i]);
         wake_one(&waiting.seats[woken[i]].word);
+    }
 }
 
 /* The same, once the lock is given back; and tells of the knot that the caller's call has tied, as all stands before that. */
@@ -190,16 +198,17 @@ __attribute__((noinline)) static void unlock_and_wake_all(struct seat *caller)
     wake_all(woken, wakes);
     if (tells)
         tell_knot(caller, text);
-    may_switch();
+    may_switch_at(NULL);
 }
 
-/* Gives the lock back, and wakes whom the call told something. */
+/* Gives the lock back, and wakes those whose words the call has written. */
 static inline void unlock_and_wake(struct seat *caller)
 {
     if (waiting.wakes > 0)
         unlock_and_wake_all(caller);
     else
         give_lock_for(caller);
+    STEP(word, NULL, Returns);
 }
 
 /* As `note_and_unlock`, where there may be somebody. */
@@ -212,10 +221,12 @@ __attribute__((noinline)) static void note_and_unlock_all(struct seat *caller)
 /* As `note`, and then as `unlock_and_wake`: where no wait pended before the call, one look tells that there is nobody to tell or to wake. */
 static inline void note_and_unlock(struct seat *caller)
 {
-    if ((waiting.pending | waiting.wakes) == 0)
+    if ((waiting.pending | waiting.wakes) == 0) {
         give_lock_for(caller);
-    else
+        STEP(word, NULL, Returns);
+    } else {
         note_and_unlock_all(caller);
+    }
 }
 
 /* A timer was set at this moment, under the lock, to be due at that one. */
@@ -249,17 +260,24 @@ static void look(struct seat *seat, uint32_t looks)
     seat->looks /= 2;
 }
 
-/* Sleeps to this moment at the longest, until the caller is told something. Answers whether its wait was granted. */
+/* Sleeps to this moment at the longest, until the caller's word is written. Answers whether its wait was granted. */
 static bool sleep_to(struct seat *seat, uint64_t moment)
 {
     const struct timespec until = in_timespec(process.start + moment);
     uint32_t seen = IS_AWAKE;
-    if (atomic_compare_exchange_strong_explicit(&seat->word, &seen, IS_ASLEEP, memory_order_acquire, memory_order_acquire))
+    const bool is_marked =
+        atomic_compare_exchange_strong_explicit(&seat->word, &seen, IS_ASLEEP, memory_order_acquire, memory_order_acquire);
+    STEP(word, &seat->word, Marks);
+    if (is_marked)
         do {
-            if (moment != NEVER && present() >= moment)
+            if (moment != NEVER && present() >= moment) {
+                STEP(word, NULL, FindsItLate);
                 return false;
+            }
+            TO_SLEEP(word, &seat->word, FallsAsleep, FallsAsleep, Stirs, Restarts, 0);
             sleep_on(&seat->word, IS_ASLEEP, moment == NEVER ? NULL : &until);
             seen = atomic_load_explicit(&seat->word, memory_order_acquire);
+            STEP(word, &seat->word, Reads);
         } while (seen == IS_ASLEEP);
     return seen == IS_GRANTED;
 }
@@ -271,8 +289,11 @@ static uint64_t look_at_time(struct seat *seat)
     take_lock_for(seat);
     if (atomic_load_explicit(&seat->word, memory_order_relaxed) != IS_GRANTED) {
         atomic_store_explicit(&seat->word, IS_AWAKE, memory_order_relaxed);
+        STEP(word, &seat->word, LooksAtTime);
         if (pass_time(seat) >= seat->timer_due)
             seat->timer_due = seat->minds ? first_minded(seat) : NEVER;
+    } else {
+        STEP(word, &seat->word, LooksAtTime);
     }
     if (atomic_load_explicit(&seat->word, memory_order_relaxed) != IS_GRANTED) {
         atomic_store_explicit(&seat->word, IS_AWAKE, memory_order_relaxed);
@@ -281,6 +302,8 @@ static uint64_t look_at_time(struct seat *seat)
         set_moment(seat);
         moment = seat->moment;
     }
+    STEP(word, &seat->word, Rearms);
+    STEP_AS(word, Returns, TurnsToSleep);
     unlock_and_wake(seat);
     return moment;
 }
@@ -296,12 +319,14 @@ __attribute__((noinline)) static DWORD sleep_until_granted(struct seat *seat, st
     const uint32_t looks = looks_before(seat);
     if (own.port != NULL)
         rest_beside_wait(seat);
+    STEP_AS(word, Returns, TurnsToSleep);
     unlock_and_wake(seat);
     if (looks > 0)
         look(seat, looks);
     while (!sleep_to(seat, moment))
         moment = look_at_time(seat);
     comes_after(&seat->word);
+    STEP(word, NULL, Returns);
     if (own.rests)
         go_on_with_packet();
     return seat->status;

@@ -11,7 +11,7 @@ DWORD QueueUserAPC(PAPCFUNC routine, HANDLE thread, ULONG_PTR argument)
                                      &seat->reply));
 }
 
-/* Runs an APC. A timer's routine is told the moment at which the timer was due, in UTC. */
+/* Runs an APC. A timer's routine gets the moment at which the timer was due, in UTC. */
 static void run_apc(const struct nt_reply *apc)
 {
     if (!apc->timed) {
@@ -88,7 +88,7 @@ struct wait {
     BOOL alertable;
 };
 
-/* What timers have to do with the caller's wait, under the lock. (One that it names may be set anew while it sleeps, so it watches then.) */
+/* What timers have to do with the caller's wait, under the lock. (One that it names may be set again while it sleeps, so it watches then.) */
 static struct dues dues_of(struct seat *seat, struct wait wait)
 {
     struct dues dues = { wait.alertable && seat->has_more_routines, wait.alertable && seat->minded > 0, NEVER };
@@ -138,7 +138,7 @@ __attribute__((noinline)) static DWORD finish_pending_for_one(struct seat *seat,
     return finish_pending(seat, (struct wait){ &number, 1, alertable });
 }
 
-/* What a wait answers that ended at once, where whom the call told something was noted. */
+/* What a wait answers that ended at once, where it was noted whom the call has to wake. */
 static inline DWORD finish_noted(struct seat *seat, BOOL alertable)
 {
     const DWORD status = seat->reply.number;
@@ -148,7 +148,7 @@ static inline DWORD finish_noted(struct seat *seat, BOOL alertable)
     return status;
 }
 
-/* The same where the call told nobody: a wait that ends at once takes objects, and ends no other. */
+/* The same where there is nobody to wake: a wait that ends at once takes objects, and ends no other. */
 static inline DWORD finish_ended(struct seat *seat, BOOL alertable)
 {
     check_told_nobody();

@@ -1,35 +1,60 @@
 /* SPDX-License-Identifier: MIT OR Apache-2.0 */
-/* ---- What a program's ThreadSanitizer is told, where it has one (ntwin.c need not be compiled for it), or its helgrind: that what was done
- * before one thread gave the lock back, or told another of its grant, came before what is done after. */
+/* ---- What a program's ThreadSanitizer learns, where it has one (ntwin.c need not be compiled for it), or its helgrind: that what was done
+ * before one thread gave the lock back, or wrote another's grant, came before what is done after. */
 
 #if defined NTWIN_HELGRIND
 #include <valgrind/helgrind.h>
 #define comes_after(word) ANNOTATE_HAPPENS_AFTER(word)
 #define comes_before(word) ANNOTATE_HAPPENS_BEFORE(word)
 #define has_sanitizer() true
+#define is_told() true
 #define knows_barriers() false
 #elif defined __SANITIZE_THREAD__
 #define comes_after(word) ((void)(word))
 #define comes_before(word) ((void)(word))
 #define has_sanitizer() false
+#define is_told() false
 #define knows_barriers() false
 #else
 extern void __tsan_acquire(void *) __attribute__((weak));
 extern void __tsan_release(void *) __attribute__((weak));
 
-static inline void comes_after(_Atomic uint32_t *word)
+/* Not null where anybody is told: a sanitizer, or a scheduler (schedule/sleep_sets.c). (A call looks at this one word.) */
+#define TELLS_SCHEDULER
+static void (*observer)(void *word) = __tsan_acquire;
+
+static inline bool is_told(void)
 {
+    return observer != NULL;
+}
+
+__attribute__((noinline, cold)) static void tell_word_taken(_Atomic uint32_t *word)
+{
+    touch_word((void *)word);
     if (__tsan_acquire != NULL)
         __tsan_acquire((void *)word);
 }
 
-static inline void comes_before(_Atomic uint32_t *word)
+__attribute__((noinline, cold)) static void tell_word_given(_Atomic uint32_t *word)
 {
+    touch_word((void *)word);
     if (__tsan_release != NULL)
         __tsan_release((void *)word);
 }
 
-/* Whether there is one, to be told. */
+static inline void comes_after(_Atomic uint32_t *word)
+{
+    if (is_told())
+        tell_word_taken(word);
+}
+
+static inline void comes_before(_Atomic uint32_t *word)
+{
+    if (is_told())
+        tell_word_given(word);
+}
+
+/* Whether there is one that has to learn of it. */
 static inline bool has_sanitizer(void)
 {
     return __tsan_acquire != NULL;

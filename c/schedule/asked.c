@@ -1,20 +1,24 @@
 /* SPDX-License-Identifier: MIT OR Apache-2.0 */
 /* ---- What NTWIN_SCHEDULE asks for, before main:
  *
- * random:SEED[,COUNT]     a run by chance; with COUNT so many, each in a process of its own, until one fails
+ * random:SEED[,COUNT]     a run by chance; with COUNT that number of runs, each in a process of its own, until one fails
  * pct:SEED,DEPTH[,COUNT]  the same by priorities, which change DEPTH - 1 times in a run
- * explore:BOUND[,COUNT]   all runs with a cost within the bound, but no more than COUNT (tree.c); explore:all has no bound
+ * explore:BOUND[,COUNT]   all runs with a cost within the bound, but no more than COUNT (tree.c)
+ * explore:all[,COUNT]     all runs, but for those that differ in the order of steps alone that touch nothing in common (sleep_sets.c)
+ * explore:plain[,COUNT]   all runs
  * replay:FILE             the run that a file of decisions says
  *
  * and then, each after a `;`: steps=N (in a run at the most), time=free (a deadline may come although threads could run), races=pass (a race is no
  * failure), minutes=M (no run begins later), seconds=S (that a thread may run without a step), out=FILE (the decisions of the run that fails),
- * trace=FILE (its steps), part=K,N (of a search one part of N), progress=FILE (how far it is). */
+ * trace=FILE (its steps), ends=FILE (how each run of a search ended, which goes on then), part=K,N (of a search one part of N), progress=FILE (how
+ * far it is). */
 
 /* How many runs a search makes at the most where that is not said. */
 enum { MOST_EXPLORED = 100000, MOST_PARTS = 4096 };
 
-#define WHAT_CAN_STAND "random:SEED[,COUNT], pct:SEED,DEPTH[,COUNT], explore:BOUND[,COUNT], explore:all[,COUNT] or replay:FILE can stand there, " \
-                       "then ;steps=N ;time=free ;races=pass ;minutes=M ;seconds=S ;out=FILE ;trace=FILE"
+#define WHAT_CAN_STAND "random:SEED[,COUNT], pct:SEED,DEPTH[,COUNT], explore:BOUND[,COUNT], explore:all[,COUNT], " \
+                       "explore:plain[,COUNT] or replay:FILE can stand there, " \
+                       "then ;steps=N ;time=free ;races=pass ;minutes=M ;seconds=S ;out=FILE ;trace=FILE ;ends=FILE"
 
 /* Reads numbers with commas between them. Answers how many there are; 0 where it is not such a list, or one of more. */
 static uint32_t read_list(const char *text, uint64_t *numbers, uint32_t most)
@@ -43,12 +47,16 @@ static bool take_path(char to[512], const char *path)
 static bool read_search(const char *text)
 {
     uint64_t numbers[2] = { 0, 0 };
-    const bool is_all = strncmp(text, "all", 3) == 0 && (text[3] == 0 || text[3] == ',');
-    const uint32_t count = is_all ? text[3] == 0 ? 1 : 1 + read_list(text + 4, &numbers[1], 1) : read_list(text, numbers, 2);
+    const size_t length = strcspn(text, ",");
+    const bool leaves_off = length == 3 && strncmp(text, "all", length) == 0, is_plain = length == 5 && strncmp(text, "plain", length) == 0;
+    const bool is_all = leaves_off || is_plain, has_count = text[length] != 0;
+    const uint32_t count = !is_all ? read_list(text, numbers, 2) : 1 + (has_count ? read_list(text + length + 1, &numbers[1], 1) : 0);
     schedule.strategy = BY_TREE;
+    schedule.leaves_off = leaves_off;
+    schedule.is_still = is_all;
     schedule.bound = is_all || numbers[0] > MOST_BOUND ? MOST_BOUND : (uint32_t)numbers[0];
     schedule.count = numbers[1] > 0 ? numbers[1] : MOST_EXPLORED;
-    return count > 0 && (count == 1 ? !is_all || text[3] == 0 : numbers[1] > 0);
+    return count == 1u + has_count && (!has_count || numbers[1] > 0);
 }
 
 /* Answers whether there is such a strategy. */
@@ -114,6 +122,8 @@ static bool read_option(const char *option)
         return take_path(schedule.traced, value);
     else if (length == 9 && strncmp(option, "progress=", length) == 0)
         return take_path(schedule.progress, value);
+    else if (length == 5 && strncmp(option, "ends=", length) == 0)
+        return schedule.strategy == BY_TREE && take_path(schedule.ends, value);
     else if (length == 5 && strncmp(option, "part=", length) == 0)
         return read_part(value);
     else

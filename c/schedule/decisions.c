@@ -3,14 +3,14 @@
  * not say is as usual. */
 
 static const char first_line[] = "; ntwin-schedule 1";
-static const char free_time[] = " time=free";
+static const char free_time[] = " time=free", still_time[] = " time=still";
 
 static void write_decisions(const char *path)
 {
     char text[48];
     FILE *file = fopen(path, "we");
     if (file != NULL)
-        fprintf(file, "%s%s\n", first_line, schedule.is_free ? free_time : "");
+        fprintf(file, "%s%s%s\n", first_line, schedule.is_free ? free_time : "", schedule.is_still ? still_time : "");
     for (uint32_t i = 0; file != NULL && i < schedule.shared->made_count; i++) {
         put_decision(text, &schedule.shared->made[i]);
         fprintf(file, "%s\n", text);
@@ -60,6 +60,7 @@ static void read_decisions(const char *path)
             refuse("ntwin: NTWIN_SCHEDULE: %s: no file of decisions: its first line is '%s', as ntwin-explore writes it", path, first_line);
         if (line[0] == ';' || line[0] == '\n') {
             schedule.is_free |= number == 1 && strstr(line, free_time) != NULL;
+            schedule.is_still |= number == 1 && strstr(line, still_time) != NULL;
             continue;
         }
         if (schedule.shared->wanted_count == MOST_DECISIONS || !read_decision(line, &schedule.shared->wanted[schedule.shared->wanted_count++]))

@@ -1,6 +1,6 @@
 /* SPDX-License-Identifier: MIT OR Apache-2.0 */
 /* ---- A run has failed. Its decisions are left out, by halves, quarters, .. and one by one, as long as it fails in the same way; the shortest run is
- * made once more, and told. */
+ * made once again, and reported. */
 
 enum { MOST_TRIES = 400, MOST_TOLD = 40, MOST_TRACED = 1000 };
 
@@ -25,7 +25,7 @@ static bool fails_so(uint32_t verdict, const struct failure *failure)
     return verdict == failure->verdict && (verdict != ENDS_BADLY || maker.status == failure->status);
 }
 
-/* Asks for those that are kept, but so many from one on. */
+/* Asks for those that are kept, but a number of them from one on. */
 static void want_without(uint32_t from, uint32_t count)
 {
     memcpy(schedule.shared->wanted, kept, from * sizeof *kept);
@@ -50,24 +50,44 @@ static uint32_t shorten(const struct failure *failure)
     return tries;
 }
 
-static void tell_output(void)
+/* What the last run wrote. */
+static void copy_output(int to)
 {
     char part[4096];
     ssize_t length;
-    dprintf(1, "ntwin: what it wrote:\n");
     lseek(maker.output, 0, SEEK_SET);
     while ((length = read(maker.output, part, sizeof part)) > 0)
-        (void)!write(1, part, (size_t)length);
+        (void)!write(to, part, (size_t)length);
+}
+
+static void tell_output(void)
+{
+    dprintf(1, "ntwin: what it wrote:\n");
+    copy_output(1);
+}
+
+static void write_how(int to, uint32_t verdict, int status)
+{
+    dprintf(to, "%s", words_of(verdict));
+    if (verdict == ENDS_BADLY && WIFSIGNALED(status))
+        dprintf(to, ": signal %d (%s)", WTERMSIG(status), strsignal(WTERMSIG(status)));
+    else if (verdict == ENDS_BADLY)
+        dprintf(to, ": exit status %d", WEXITSTATUS(status));
+    dprintf(to, "\n");
+}
+
+/* How the last run ended, in a line after a `;`, and what it wrote. */
+static void write_end(int to)
+{
+    dprintf(to, "; ");
+    write_how(to, schedule.shared->verdict, maker.status);
+    copy_output(to);
 }
 
 static void tell_verdict(const char *name, uint64_t number, const struct failure *failure)
 {
-    dprintf(1, "ntwin: schedule %llu, %s, %s", (unsigned long long)number, name, words_of(failure->verdict));
-    if (failure->verdict == ENDS_BADLY && WIFSIGNALED(failure->status))
-        dprintf(1, ": signal %d (%s)", WTERMSIG(failure->status), strsignal(WTERMSIG(failure->status)));
-    else if (failure->verdict == ENDS_BADLY)
-        dprintf(1, ": exit status %d", WEXITSTATUS(failure->status));
-    dprintf(1, "\n");
+    dprintf(1, "ntwin: schedule %llu, %s, ", (unsigned long long)number, name);
+    write_how(1, failure->verdict, failure->status);
 }
 
 static void tell_decisions(void)
@@ -101,6 +121,7 @@ __attribute__((noreturn)) static void tell_failure(const char *name, uint64_t nu
     if (kept == NULL)
         refuse("ntwin: NTWIN_SCHEDULE: out of memory");
     schedule.strategy = BY_FILE;
+    notes_touches = false;
     const uint32_t tries = failure.verdict != CANT_BE_EXPLORED ? shorten(&failure) : 0;
     want_without(0, 0);
     begin_trace();

@@ -9,8 +9,15 @@ enum point { AT_CALL, AT_YIELD, AT_SLEEP, AT_END };
 
 #if defined STRANDS_H || defined HAS_NO_SCHEDULER
 /* (A test with a scheduler of its own has none beside it; and a test counts what this costs.) */
-enum { is_scheduled = false };
+enum { is_scheduled = false, notes_touches = false };
+#define touch(what, writes) ((void)(what))
+#define touch_all() ((void)0)
+#define touch_word(word) ((void)(word))
+#define begin_touching() ((void)0)
 #define come_to(point) ((void)(point))
+#define come_to_object(object) ((void)(object))
+#define come_to_seen(object) ((void)(object))
+#define come_to_dispatcher() ((void)0)
 #define come_to_clock() ((void)0)
 #define come_in() ((void)0)
 #define sleep_scheduled(word, seen, until, bits) ((void)(word), (void)(seen), (void)(until), (void)(bits))
@@ -26,9 +33,17 @@ enum { is_scheduled = false };
 #define leave_schedule() ((void)0)
 #define leave_turns() ((void)0)
 #else
-static bool is_scheduled; /* written before main, and in a child that the program forks */
+static bool is_scheduled;  /* written before main, and in a child that the program forks */
+static bool notes_touches; /* so is this: what each step touches is noted, since two that touch nothing in common may change places (sleep_sets.c) */
 
+static void touch(const volatile void *what, bool writes);
+static void touch_all(void);
+__attribute__((unused)) static void touch_word(void *word); /* (A build for one sanitizer calls it nowhere.) */
+static void begin_touching(void);
 static void come_to(enum point point);
+static void come_to_object(const volatile void *object);
+static void come_to_seen(const volatile void *object);
+static void come_to_dispatcher(void);
 static void come_to_clock(void);
 static void come_in(void);
 static void sleep_scheduled(const _Atomic uint32_t *word, uint32_t seen, const struct timespec *until, uint32_t bits);
@@ -50,11 +65,26 @@ static inline bool by_schedule(void)
     return __builtin_expect(is_scheduled, 0);
 }
 
-/* Another thread may go on here. */
-static inline void may_switch(void)
+/* Another thread may go on here. The caller touches no more than this object from here on, and nothing where that is null, as far as is known here:
+ * what it takes, gives back, wakes or sleeps on is noted where it does so. */
+static inline void may_switch_at(const volatile void *object)
 {
     if (by_schedule())
-        come_to(AT_CALL);
+        come_to_object(object);
+}
+
+/* The same, where the caller has looked at the object since its point before. */
+static inline void may_switch_at_seen(const volatile void *object)
+{
+    if (by_schedule())
+        come_to_seen(object);
+}
+
+/* The same before a call of the dispatcher. (What it touches is noted there: looked.c.) */
+static inline void may_switch_before_call(void)
+{
+    if (by_schedule())
+        come_to_dispatcher();
 }
 
 /* The same, where the caller looks at the time. */

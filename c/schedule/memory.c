@@ -160,15 +160,23 @@ static void touch_cell(uintptr_t at, uint8_t bytes, unsigned how, const void *pl
 /* The program is about to touch this memory: a point comes first. */
 static void touch_memory(const volatile void *from, size_t size, unsigned how, const void *place)
 {
-    if (!comes_from_program() || me->number >= MOST_RACERS)
-        return;
     const uintptr_t start = (uintptr_t)from, end = start + size;
-    for (uintptr_t at = start / CELL * CELL; at < end; at += CELL) {
+    if (!comes_to(NULL))
+        return;
+    for (uintptr_t at = start / CELL * CELL; at < end; at += CELL)
+        touch((const void *)at, (how & WRITES) != 0);
+    for (uintptr_t at = start / CELL * CELL; at < end && me->number < MOST_RACERS; at += CELL) {
         const unsigned below = at < start ? (unsigned)(start - at) : 0, above = at + CELL > end ? (unsigned)(end - at) : CELL;
         touch_cell(at, (uint8_t)((0xFFu << below & 0xFFu) & 0xFFu >> (CELL - above)), how, place);
     }
     if ((how & (ACQUIRES | RELEASES)) != 0)
         order_by(from, how);
+}
+
+/* Whether what orders accesses matters. */
+static bool follows_races(void)
+{
+    return memory.cells != NULL && !schedule.passes_races;
 }
 
 /* This memory may be another thing from now on. */

@@ -63,9 +63,10 @@ static void jump(uint64_t deadline)
     if (deadline > schedule.now)
         schedule.now = deadline;
     me->ordinal++;
+    stop_resting();
 }
 
-/* The run ends here, and who waits for what is told. */
+/* The run ends here, and who waits for what is written. */
 __attribute__((noreturn)) static void end_waiting(enum verdict verdict)
 {
     look_whether_all_fitted();
@@ -75,6 +76,7 @@ __attribute__((noreturn)) static void end_waiting(enum verdict verdict)
 /* The caller is at a point. Answers who goes on; null where it was the last thread, and has ended. */
 static struct scheduled *choose(enum point point)
 {
+    end_step(point);
     me->ordinal++;
     schedule.points++;
     me->seat = own.seat != NULL ? own.seat->number : me->seat;
@@ -125,6 +127,7 @@ __attribute__((noinline, cold)) static void come_in(void)
     const int error = errno;
     if (!is_apart() && me == NULL)
         come_by_itself();
+    touch_numbers();
     errno = error;
 }
 
@@ -133,25 +136,54 @@ static void pass_step(enum point point)
 {
     enum { MOST_DOUBLINGS = 20 };
     me->idles = point == AT_YIELD ? me->idles + 1 : 0;
+    if (schedule.is_still && me->idles == 0)
+        return;
     schedule.now += (uint64_t)STEP_TAKES << (me->idles < MOST_DOUBLINGS ? me->idles : MOST_DOUBLINGS);
 }
 
-__attribute__((noinline, cold)) static void come_to(enum point point)
+/* The caller comes to a point for this object, or null, and may touch anything from there on or not. False where that is no point of the run. */
+static bool come_for(enum point point, const volatile void *object, bool touches_all)
 {
     const int error = errno;
     if (is_apart())
-        return;
+        return false;
     if (me == NULL)
         come_by_itself();
     if (me->skips > 0) {
         me->skips--;
-        return;
+        return false;
     }
+    me->object = object;
+    me->touches_all = touches_all;
     pass_step(point);
     if (++schedule.shared->steps > schedule.most_steps)
         end_waiting(NEVER_ENDS);
     hand_on(point);
+    touch_own();
     errno = error;
+    return true;
+}
+
+__attribute__((noinline, cold)) static void come_to(enum point point)
+{
+    come_for(point, NULL, point == AT_CALL);
+}
+
+__attribute__((noinline, cold)) static void come_to_object(const volatile void *object)
+{
+    come_for(AT_CALL, object, false);
+}
+
+__attribute__((noinline, cold)) static void come_to_seen(const volatile void *object)
+{
+    touch(object, true);
+    come_for(AT_CALL, object, false);
+}
+
+__attribute__((noinline, cold)) static void come_to_dispatcher(void)
+{
+    if (come_for(AT_CALL, NULL, false))
+        schedule.is_unsaid = true;
 }
 
 __attribute__((noinline, cold)) static void come_to_clock(void)
@@ -203,6 +235,7 @@ __attribute__((noinline, cold)) static void sleep_scheduled(const _Atomic uint32
     }
     if (me == NULL)
         come_by_itself();
+    touch(word, true);
     if (atomic_load_explicit(word, memory_order_acquire) == seen) {
         me->state = IS_SLEEPING;
         me->word = word;
@@ -211,15 +244,18 @@ __attribute__((noinline, cold)) static void sleep_scheduled(const _Atomic uint32
         me->slept = ++schedule.sleeps;
         hand_on(AT_SLEEP);
         me->word = NULL;
+        touch(word, true);
+        touch_own();
     }
     errno = error;
 }
 
-/* Wakes those that fell asleep first. Answers how many. (A futex may be woken that nobody sleeps on any more, and that is memory of something else by
+/* Wakes those that fell asleep first. Answers how many. (A futex may be woken that nobody sleeps on now, and that is memory of something else by
  * now.) */
 __attribute__((noinline, cold)) static int wake_scheduled(const void *word, int count, uint32_t bits)
 {
     int woken = 0;
+    touch(word, true);
     for (; woken < count; woken++) {
         struct scheduled *first = NULL;
         for (uint32_t i = 0; i < schedule.threads_count; i++) {
@@ -269,6 +305,7 @@ __attribute__((noinline, cold)) static void begin_scheduled(const struct seat *s
     struct scheduled *it = thread_in(seat->number);
     it->skips = 1;
     take_part(it);
+    touch_object(seat->number);
     begin_in_memory(it);
 }
 

@@ -95,12 +95,21 @@ static bool is_in_run(void)
     return true;
 }
 
-/* The same, and the caller has come to a point then. */
+/* The same, and the caller has come to a point then: it may touch anything from there on, */
 static bool comes_from_program(void)
 {
     if (!is_in_run())
         return false;
     come_to(AT_CALL);
+    return true;
+}
+
+/* or this object, or null, and what it is known to touch. */
+static bool comes_to(const volatile void *object)
+{
+    if (!is_in_run())
+        return false;
+    come_to_object(object);
     return true;
 }
 
@@ -120,7 +129,10 @@ static bool sleep_in(const struct blocked *blocked, uint64_t until)
     me->slept = ++schedule.sleeps;
     me->blocked = blocked;
     me->was_woken = false;
+    touch(blocked->object, true);
     hand_on(AT_SLEEP);
+    touch(blocked->object, true);
+    touch_own();
     me->word = NULL;
     me->blocked = NULL;
     errno = error;

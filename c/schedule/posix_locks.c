@@ -12,6 +12,7 @@ struct taken {
 static int take_by(const struct taken *kind, void *object, uint64_t until, const void *place)
 {
     const struct blocked blocked = { kind->call, object, place, NULL };
+    touch(object, true);
     for (int error; (error = kind->attempt(object)) != EBUSY;) {
         tell_after(object);
         return error;
@@ -47,14 +48,14 @@ static const struct taken a_mutex = { "pthread_mutex_lock", attempt_mutex, is_mu
 
 static int hooked_pthread_mutex_lock(pthread_mutex_t *mutex)
 {
-    if (!comes_from_program())
+    if (!comes_to(mutex))
         return real.pthread_mutex_lock(mutex);
     return take_by(&a_mutex, mutex, NEVER, __builtin_return_address(0));
 }
 
 static int hooked_pthread_mutex_trylock(pthread_mutex_t *mutex)
 {
-    const bool is_ours = comes_from_program();
+    const bool is_ours = comes_to(mutex);
     const int error = real.pthread_mutex_trylock(mutex);
     if (is_ours && error == 0)
         tell_after(mutex);
@@ -63,14 +64,14 @@ static int hooked_pthread_mutex_trylock(pthread_mutex_t *mutex)
 
 static int hooked_pthread_mutex_timedlock(pthread_mutex_t *mutex, const struct timespec *time)
 {
-    if (!is_time(time) || !comes_from_program())
+    if (!is_time(time) || !comes_to(mutex))
         return real.pthread_mutex_timedlock(mutex, time);
     return take_by(&a_mutex, mutex, moment_by(CLOCK_REALTIME, time), __builtin_return_address(0));
 }
 
 static int hooked_pthread_mutex_clocklock(pthread_mutex_t *mutex, clockid_t clock, const struct timespec *time)
 {
-    if (!is_time(time) || !is_clock_of_run(clock) || !comes_from_program())
+    if (!is_time(time) || !is_clock_of_run(clock) || !comes_to(mutex))
         return real.pthread_mutex_clocklock(mutex, clock, time);
     return take_by(&a_mutex, mutex, moment_by(clock, time), __builtin_return_address(0));
 }
@@ -104,7 +105,7 @@ static int wait_for_condition(pthread_cond_t *condition, pthread_mutex_t *mutex,
 
 static int hooked_pthread_cond_wait(pthread_cond_t *condition, pthread_mutex_t *mutex)
 {
-    if (!comes_from_program())
+    if (!comes_to(condition))
         return real.pthread_cond_wait(condition, mutex);
     return wait_for_condition(condition, mutex, NEVER, __builtin_return_address(0));
 }
@@ -118,21 +119,21 @@ static clockid_t clock_of(const pthread_cond_t *condition)
 
 static int hooked_pthread_cond_timedwait(pthread_cond_t *condition, pthread_mutex_t *mutex, const struct timespec *time)
 {
-    if (!is_time(time) || !comes_from_program())
+    if (!is_time(time) || !comes_to(condition))
         return real.pthread_cond_timedwait(condition, mutex, time);
     return wait_for_condition(condition, mutex, moment_by(clock_of(condition), time), __builtin_return_address(0));
 }
 
 static int hooked_pthread_cond_clockwait(pthread_cond_t *condition, pthread_mutex_t *mutex, clockid_t clock, const struct timespec *time)
 {
-    if (!is_time(time) || !is_clock_of_run(clock) || !comes_from_program())
+    if (!is_time(time) || !is_clock_of_run(clock) || !comes_to(condition))
         return real.pthread_cond_clockwait(condition, mutex, clock, time);
     return wait_for_condition(condition, mutex, moment_by(clock, time), __builtin_return_address(0));
 }
 
 static int hooked_pthread_cond_signal(pthread_cond_t *condition)
 {
-    if (!comes_from_program())
+    if (!comes_to(condition))
         return real.pthread_cond_signal(condition);
     wake_at(condition, 1);
     return 0;
@@ -140,7 +141,7 @@ static int hooked_pthread_cond_signal(pthread_cond_t *condition)
 
 static int hooked_pthread_cond_broadcast(pthread_cond_t *condition)
 {
-    if (!comes_from_program())
+    if (!comes_to(condition))
         return real.pthread_cond_broadcast(condition);
     wake_at(condition, INT_MAX);
     return 0;
@@ -175,11 +176,11 @@ static const struct taken a_spin = { "pthread_spin_lock", attempt_spin, NULL };
 #define RWLOCK_CALLS(kind, lock_call, try_call, timed_call, clock_call) \
     static int hooked_##lock_call(pthread_rwlock_t *lock) \
     { \
-        return comes_from_program() ? take_by(&(kind), lock, NEVER, __builtin_return_address(0)) : real.lock_call(lock); \
+        return comes_to(lock) ? take_by(&(kind), lock, NEVER, __builtin_return_address(0)) : real.lock_call(lock); \
     } \
     static int hooked_##try_call(pthread_rwlock_t *lock) \
     { \
-        const bool is_ours = comes_from_program(); \
+        const bool is_ours = comes_to(lock); \
         const int error = real.try_call(lock); \
         if (is_ours && error == 0) \
             tell_after(lock); \
@@ -187,13 +188,13 @@ static const struct taken a_spin = { "pthread_spin_lock", attempt_spin, NULL };
     } \
     static int hooked_##timed_call(pthread_rwlock_t *lock, const struct timespec *time) \
     { \
-        if (!is_time(time) || !comes_from_program()) \
+        if (!is_time(time) || !comes_to(lock)) \
             return real.timed_call(lock, time); \
         return take_by(&(kind), lock, moment_by(CLOCK_REALTIME, time), __builtin_return_address(0)); \
     } \
     static int hooked_##clock_call(pthread_rwlock_t *lock, clockid_t clock, const struct timespec *time) \
     { \
-        if (!is_time(time) || !is_clock_of_run(clock) || !comes_from_program()) \
+        if (!is_time(time) || !is_clock_of_run(clock) || !comes_to(lock)) \
             return real.clock_call(lock, clock, time); \
         return take_by(&(kind), lock, moment_by(clock, time), __builtin_return_address(0)); \
     }
@@ -213,14 +214,14 @@ static int hooked_pthread_rwlock_unlock(pthread_rwlock_t *lock)
 
 static int hooked_pthread_spin_lock(pthread_spinlock_t *lock)
 {
-    if (!comes_from_program())
+    if (!comes_to(lock))
         return real.pthread_spin_lock(lock);
     return take_by(&a_spin, (void *)(uintptr_t)lock, NEVER, __builtin_return_address(0));
 }
 
 static int hooked_pthread_spin_trylock(pthread_spinlock_t *lock)
 {
-    const bool is_ours = comes_from_program();
+    const bool is_ours = comes_to(lock);
     const int error = real.pthread_spin_trylock(lock);
     if (is_ours && error == 0)
         tell_after((const void *)(uintptr_t)lock);
@@ -262,12 +263,12 @@ static int wait_for_semaphore(sem_t *semaphore, uint64_t until, const void *plac
 
 static int hooked_sem_wait(sem_t *semaphore)
 {
-    return comes_from_program() ? wait_for_semaphore(semaphore, NEVER, __builtin_return_address(0)) : real.sem_wait(semaphore);
+    return comes_to(semaphore) ? wait_for_semaphore(semaphore, NEVER, __builtin_return_address(0)) : real.sem_wait(semaphore);
 }
 
 static int hooked_sem_trywait(sem_t *semaphore)
 {
-    const bool is_ours = comes_from_program();
+    const bool is_ours = comes_to(semaphore);
     const int answer = real.sem_trywait(semaphore);
     if (is_ours && answer == 0)
         tell_after(semaphore);
@@ -276,21 +277,21 @@ static int hooked_sem_trywait(sem_t *semaphore)
 
 static int hooked_sem_timedwait(sem_t *semaphore, const struct timespec *time)
 {
-    if (!is_time(time) || !comes_from_program())
+    if (!is_time(time) || !comes_to(semaphore))
         return real.sem_timedwait(semaphore, time);
     return wait_for_semaphore(semaphore, moment_by(CLOCK_REALTIME, time), __builtin_return_address(0));
 }
 
 static int hooked_sem_clockwait(sem_t *semaphore, clockid_t clock, const struct timespec *time)
 {
-    if (!is_time(time) || !is_clock_of_run(clock) || !comes_from_program())
+    if (!is_time(time) || !is_clock_of_run(clock) || !comes_to(semaphore))
         return real.sem_clockwait(semaphore, clock, time);
     return wait_for_semaphore(semaphore, moment_by(clock, time), __builtin_return_address(0));
 }
 
 static int hooked_sem_post(sem_t *semaphore)
 {
-    if (!comes_from_program())
+    if (!comes_to(semaphore))
         return real.sem_post(semaphore);
     tell_before(semaphore);
     const int answer = real.sem_post(semaphore);
@@ -349,7 +350,7 @@ static int hooked_pthread_barrier_wait(pthread_barrier_t *at)
 {
     const struct blocked blocked = { "pthread_barrier_wait", at, __builtin_return_address(0), NULL };
     struct counted_barrier *it = is_in_run() ? *find_barrier(at) : NULL;
-    if (it == NULL || !comes_from_program())
+    if (it == NULL || !comes_to(at))
         return real.pthread_barrier_wait(at);
     tell_before(at);
     const bool is_last = ++it->come == it->wanted;

@@ -38,7 +38,7 @@ static int hooked_pthread_create(pthread_t *thread, const pthread_attr_t *attrib
         schedule.alive--;
         (real.free)(beginning);
     }
-    come_to(AT_CALL);
+    come_to_object(NULL);
     return error;
 }
 
@@ -49,6 +49,15 @@ static struct scheduled *other_thread(pthread_t thread)
         if (pthread_equal(schedule.threads[i]->thread, thread) != 0)
             return schedule.threads[i] != me ? schedule.threads[i] : NULL;
     return NULL;
+}
+
+/* Whether the program asks for the end of this thread in a run. The caller has come to a point then. */
+static bool comes_to_join(pthread_t thread)
+{
+    if (!is_in_run())
+        return false;
+    const struct scheduled *it = other_thread(thread);
+    return it != NULL ? comes_to(it) : comes_from_program();
 }
 
 /* Waits until it has ended, to this moment at the longest. Answers whether it has; true of one that the scheduler does not know. */
@@ -68,28 +77,28 @@ static bool has_ended_by(pthread_t thread, uint64_t until, const void *place)
 
 static int hooked_pthread_join(pthread_t thread, void **value)
 {
-    if (comes_from_program())
+    if (comes_to_join(thread))
         has_ended_by(thread, NEVER, __builtin_return_address(0));
     return real.pthread_join(thread, value);
 }
 
 static int hooked_pthread_tryjoin_np(pthread_t thread, void **value)
 {
-    if (comes_from_program())
+    if (comes_to_join(thread))
         return has_ended_by(thread, 0, NULL) ? real.pthread_join(thread, value) : EBUSY;
     return real.pthread_tryjoin_np(thread, value);
 }
 
 static int hooked_pthread_timedjoin_np(pthread_t thread, void **value, const struct timespec *time)
 {
-    if (!is_time(time) || !comes_from_program())
+    if (!is_time(time) || !comes_to_join(thread))
         return real.pthread_timedjoin_np(thread, value, time);
     return has_ended_by(thread, moment_by(CLOCK_REALTIME, time), __builtin_return_address(0)) ? real.pthread_join(thread, value) : ETIMEDOUT;
 }
 
 static int hooked_pthread_clockjoin_np(pthread_t thread, void **value, clockid_t clock, const struct timespec *time)
 {
-    if (!is_time(time) || !is_clock_of_run(clock) || !comes_from_program())
+    if (!is_time(time) || !is_clock_of_run(clock) || !comes_to_join(thread))
         return real.pthread_clockjoin_np(thread, value, clock, time);
     return has_ended_by(thread, moment_by(clock, time), __builtin_return_address(0)) ? real.pthread_join(thread, value) : ETIMEDOUT;
 }
@@ -107,7 +116,7 @@ static bool nobody_is_in(const void *control)
 static int hooked_pthread_once(pthread_once_t *control, void (*routine)(void))
 {
     const struct blocked blocked = { "pthread_once", control, __builtin_return_address(0), nobody_is_in };
-    if (!comes_from_program())
+    if (!comes_to(control))
         return real.pthread_once(control, routine);
     while (!nobody_is_in(control))
         sleep_in(&blocked, NEVER);
@@ -169,7 +178,7 @@ static long hooked_syscall(long number, ...)
     const int operation = number == SYS_futex ? (int)with[1] & FUTEX_CMD_MASK : -1;
     const bool waits = operation == FUTEX_WAIT || operation == FUTEX_WAIT_BITSET;
     const bool has_time = with[3] == 0 || is_time((const struct timespec *)with[3]);
-    if ((!(waits && has_time) && operation != FUTEX_WAKE && operation != FUTEX_WAKE_BITSET) || !comes_from_program())
+    if ((!(waits && has_time) && operation != FUTEX_WAKE && operation != FUTEX_WAKE_BITSET) || !comes_to((const void *)with[0]))
         return call_system(number, with);
     if (waits)
         return wait_on_word(__builtin_return_address(0), with);

@@ -43,7 +43,7 @@ static void sleep_to_moment(const char *call, uint64_t until)
 
 static int hooked_nanosleep(const struct timespec *time, struct timespec *left)
 {
-    if (!is_time(time) || !comes_from_program())
+    if (!is_time(time) || !comes_to(NULL))
         return real.nanosleep(time, left);
     sleep_to_moment("nanosleep", moment_in(time));
     return 0;
@@ -51,7 +51,7 @@ static int hooked_nanosleep(const struct timespec *time, struct timespec *left)
 
 static int hooked_clock_nanosleep(clockid_t clock, int flags, const struct timespec *time, struct timespec *left)
 {
-    if (!is_time(time) || !is_clock_of_run(clock) || !comes_from_program())
+    if (!is_time(time) || !is_clock_of_run(clock) || !comes_to(NULL))
         return real.clock_nanosleep(clock, flags, time, left);
     sleep_to_moment("clock_nanosleep", (flags & TIMER_ABSTIME) != 0 ? moment_by(clock, time) : moment_in(time));
     return 0;
@@ -59,7 +59,7 @@ static int hooked_clock_nanosleep(clockid_t clock, int flags, const struct times
 
 static int hooked_usleep(useconds_t microseconds)
 {
-    if (!comes_from_program())
+    if (!comes_to(NULL))
         return real.usleep(microseconds);
     sleep_to_moment("usleep", schedule.now + (uint64_t)microseconds * 10);
     return 0;
@@ -67,7 +67,7 @@ static int hooked_usleep(useconds_t microseconds)
 
 static unsigned hooked_sleep(unsigned seconds)
 {
-    if (!comes_from_program())
+    if (!comes_to(NULL))
         return real.sleep(seconds);
     sleep_to_moment("sleep", schedule.now + (uint64_t)seconds * MOMENTS_PER_SECOND);
     return 0;

@@ -5,7 +5,7 @@ enum { MOST_LETTERS = 160 };
 
 static struct {
     int file;       /* that progress=FILE names; or less than 0 */
-    uint64_t next;  /* when it is told again, in ns */
+    uint64_t next;  /* when it is written again, in ns */
     uint64_t began, before;
     bool is_shown;
 } progress = { .file = -1 };
@@ -18,7 +18,7 @@ static void begin_progress(void)
         progress.file = open(schedule.progress, O_WRONLY | O_CREAT | O_CLOEXEC, 0666);
 }
 
-/* Tells it, where a second has passed since that was done: so many runs, the steps of the longest, and the share of all that is done. */
+/* Tells it, where a second has passed since that was done: how many runs, the steps of the longest, and the share of all that is done. */
 static void tell_progress(uint64_t runs, uint64_t longest, double (*share)(void))
 {
     char line[MOST_LETTERS];
@@ -38,7 +38,7 @@ static void tell_progress(uint64_t runs, uint64_t longest, double (*share)(void)
     progress.next = now + 1000000000;
 }
 
-/* The line makes room for what is told at the end. */
+/* The line makes room for what is written at the end. */
 static void end_progress(void)
 {
     if (progress.is_shown)

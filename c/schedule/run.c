@@ -3,6 +3,7 @@
  * The time is a number, which jumps to the next deadline once no thread can go on. So a run is a function of its decisions.
  *
  * What stands in `schedule` belongs to who has the baton; before main, and between runs, to the first thread. */
+#include "chance.h"
 #include <dirent.h>
 #include <execinfo.h>
 #include <sys/prctl.h>
@@ -16,7 +17,8 @@ enum {
     DECISION_SLOTS = 1 << 18,
     MOST_CHANGES = 64,     /* of priorities, in a run */
     STEP_TAKES = 10,       /* in units of 100 ns */
-    MOST_POINTS_IN_A_ROW = 2000   /* points of one thread while others can go on, where chance or priorities decide */
+    MOST_POINTS_IN_A_ROW = 2000,  /* points of one thread while others can go on, where chance or priorities decide */
+    MOST_TOUCHED = 12      /* by a step: one that touches more is taken to touch all */
 };
 
 /* With which status the process ends. */
@@ -25,7 +27,14 @@ enum { WRONG_WORDS = 2, HAS_FAILED, BOUND_MET };
 enum strategy { BY_CHANCE, BY_PRIORITY, BY_FILE, BY_TREE };
 
 /* How a run ended. */
-enum verdict { ENDED_WELL, HANGS, TIES_KNOT, NEVER_ENDS, STALLS, RACES, ENDS_BADLY, DOES_NOT_FIT, CANT_BE_EXPLORED };
+enum verdict { ENDED_WELL, HANGS, TIES_KNOT, NEVER_ENDS, STALLS, RACES, ENDS_BADLY, DOES_NOT_FIT, CANT_BE_EXPLORED, LEFT_OFF };
+
+/* What a step touches (sleep_sets.c). */
+struct touched {
+    bool is_all;
+    uint32_t count;
+    uintptr_t what[MOST_TOUCHED];
+};
 
 /* A thread, as the scheduler knows it. */
 struct scheduled {
@@ -38,9 +47,13 @@ struct scheduled {
     uint64_t since;               /* when it could go on, and did not: the least of those that can has waited the longest */
     uint32_t number, seat;
     uint32_t ordinal;             /* how often it came to a point */
-    uint32_t skips;               /* so many points to come are none */
+    uint32_t skips;               /* how many points to come are none */
     uint32_t idles;               /* how often it has yielded, or looked at the time, and did nothing else */
     int64_t priority;
+    const volatile void *object;  /* for which it came to its last point, or null; */
+    bool touches_all;             /* or it may touch anything from there on */
+    bool rests;                   /* what it does next was tried, and touched this: */
+    struct touched tried;
     bool is_choosing;             /* it is at a point: what a handler of signals calls then is none */
     bool was_woken;               /* its last sleep ended since another woke it, or what it waits for has come */
     const struct blocked *blocked; /* the call of POSIX in which it sleeps (posix.c), or null */
@@ -72,15 +85,18 @@ static struct {
     double most_seconds;          /* without a step */
     uint64_t until;               /* when no further run begins, in ns; or NEVER */
     bool is_free;                 /* a deadline may come although threads could run */
+    bool is_still;                /* a step takes no time, but where a thread yields or looks at it */
+    bool leaves_off;              /* a search makes no run that differs from another in the order of steps alone that touch nothing in common */
     bool passes_races;            /* a race is no failure */
     char file[512];               /* of the decisions that are wanted, */
     char out[512], traced[512];   /* and to which decisions and steps are written; or empty */
-    char progress[512];           /* and to which it is written how far the search is */
-    uint32_t part, parts;         /* of a search this part of so many; or of 0, where it is the whole */
+    char progress[512];           /* and to which it is written how far the search is, */
+    char ends[512];               /* and how each run of it ended */
+    uint32_t part, parts;         /* of a search this part, and how many there are; or of 0, where it is the whole */
     struct shared_run *shared;
     bool has_maker, makes;        /* another process makes this run; this one makes runs */
     bool must_fit;                /* each decision that is wanted has to be possible, */
-    uint32_t fitted;              /* and so many were made */
+    uint32_t fitted;              /* and how many were made */
     uint32_t *wanted_at;          /* where each stands in `wanted`, from 1 on */
     uint64_t random[2];
     uint32_t habit;               /* how often chance leaves who calls */
@@ -91,6 +107,8 @@ static struct {
     struct scheduled **threads;   /* and those that take part */
     uint32_t threads_count, alive, in_a_row;
     uint32_t spent;               /* what its choices cost (tree.c) */
+    struct touched touched, *step; /* by the step under way, and where the search keeps that; or null */
+    bool is_unsaid;               /* the step is a call of the dispatcher, which has not said what it touches */
     uint64_t now, sleeps, turns;
     uint64_t ended;               /* when the process began to end, by the system's clock; or 0 */
     int trace;                    /* a file of its steps, from this one on; or less than 0 */
@@ -105,22 +123,14 @@ static _Thread_local bool is_beyond __attribute__((tls_model("initial-exec"))); 
 
 static uint64_t any_number(void)
 {
-    uint64_t a = schedule.random[0];
-    const uint64_t b = schedule.random[1];
-    schedule.random[0] = b;
-    a ^= a << 23;
-    schedule.random[1] = a ^ b ^ (a >> 17) ^ (b >> 26);
-    return schedule.random[1] + b;
+    return next_of_chance(schedule.random);
 }
 
 /* What the seed decides before the run: by its remainder by 4 how often chance leaves who calls, and when priorities change. (Of how many steps a run
  * is nobody knows before it: so that is drawn, too, and the run depends on its seed alone.) */
 static void seed_chance(uint64_t seed)
 {
-    schedule.random[0] = seed * UINT64_C(0x9E3779B97F4A7C15) + 1;
-    schedule.random[1] = seed ^ UINT64_C(0xD1B54A32D192ED03);
-    for (int i = 0; i < 10; i++)
-        any_number();
+    begin_chance(schedule.random, seed);
     schedule.habit = seed % 4;
     const uint64_t length = UINT64_C(4) << any_number() % 8;
     for (uint32_t i = 0; i + 1 < schedule.depth && i < MOST_CHANGES; i++)
@@ -132,7 +142,7 @@ static void seed_chance(uint64_t seed)
 static const char *words_of(uint32_t verdict)
 {
     static const char *const words[] = { "ends well", "HANGS: nothing can end the waits", "ties a KNOT", "does not end", "runs without a call",
-                                         "has a RACE", "ends badly", "does not fit the file", "can't be explored" };
+                                         "has a RACE", "ends badly", "does not fit the file", "can't be explored", "is left off" };
     return words[verdict];
 }
 

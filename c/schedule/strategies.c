@@ -21,7 +21,7 @@ static uint32_t by_chance(enum point point, uint32_t usual, const struct stand *
     return point == AT_YIELD && any == me->number ? usual : any;
 }
 
-/* Each thread has a priority by chance; that of the caller falls below all others at so many points of the run, and as it yields. */
+/* Each thread has a priority by chance; that of the caller falls below all others at some points of the run, and as it yields. */
 static uint32_t by_priority(enum point point, uint32_t usual, const struct stand *stand)
 {
     const struct scheduled *best = NULL;
@@ -120,8 +120,11 @@ static uint32_t by_tree(enum point point, uint32_t usual, bool may_jump);
 static uint32_t decide(enum point point, uint32_t usual, const struct stand *stand)
 {
     const bool may_jump = schedule.is_free && stand->deadline != NEVER && usual != NO_ONE && usual != THE_CLOCK;
-    if (schedule.strategy != BY_FILE && stand->ready + may_jump < 2)
+    if (schedule.strategy != BY_FILE && stand->ready + may_jump < 2) {
+        if (does_rest(usual))
+            leave_run_off();
         return usual;
+    }
     uint32_t chosen = schedule.strategy == BY_CHANCE ? by_chance(point, usual, stand)
         : schedule.strategy == BY_PRIORITY ? by_priority(point, usual, stand)
         : schedule.strategy == BY_FILE ? by_file(usual, may_jump) : by_tree(point, usual, may_jump);

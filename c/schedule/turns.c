@@ -21,6 +21,7 @@ static void number_thread(struct scheduled *it)
     it->number = schedule.threads_count;
     it->priority = (int64_t)(any_number() >> 2);
     it->since = ++schedule.turns;
+    touch(&schedule.threads_count, true);
     schedule.threads[schedule.threads_count++] = it;
     schedule.shared->threads = schedule.threads_count;
     schedule.alive++;

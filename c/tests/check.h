@@ -1,4 +1,4 @@
-/* What the tests share: rows that say what a call answers, counted, with the last line in the gate's form. What fails is told with its file
+/* What the tests share: rows that say what a call answers, counted, with the last line in the gate's form. What fails is written with its file
  * and line, as a compiler tells it. */
 #ifndef CHECK_H
 #define CHECK_H

@@ -9,7 +9,7 @@ enum { PACKETS = 3000 };
 
 static HANDLE PORT;
 
-/* A port for so many threads, with packets whose keys are 1, 2, and so on. */
+/* A port for this number of threads, with packets whose keys are 1, 2, and so on. */
 static HANDLE port_for(DWORD threads, ULONG_PTR packets)
 {
     HANDLE port = CreateIoCompletionPort(INVALID_HANDLE_VALUE, NULL, 0, threads);
@@ -322,7 +322,7 @@ static void *post_many(void *first)
     return NULL;
 }
 
-/* Each packet is gotten once. Where none sleeps, no more threads run at once than the port allows; and in the end none counts any longer. */
+/* Each packet is gotten once. Where none sleeps, no further threads run at once than the port allows; and in the end none counts any longer. */
 static void by_many_threads(DWORD threads, void *to_sleep)
 {
     const LONG all = PACKETS * THREADS;

@@ -163,7 +163,7 @@ static void events(void)
     REFUSED(nt_pulse_event(&nt, 0, 9, &reply), 6);
 }
 
-/* The pending wait of this thread names so many objects. */
+/* The pending wait of this thread names this number of objects. */
 #define WAITS_FOR(thread, wanted_count, wanted_all, wanted_alertable, wanted_timed, wanted_deadline) \
     do { \
         struct nt_pending_wait wait; \

@@ -1,5 +1,5 @@
 /* What nt_grant answers after a call of nt.h that is refused: there is no grant, or those of the call before are still there. A driver that
- * reads the grants of each accepted call before the next one is told each wait once. */
+ * reads the grants of each accepted call before the next one learns of each wait once. */
 #include "room.h"
 
 static struct nt nt;

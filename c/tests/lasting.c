@@ -97,7 +97,7 @@ static long own_memory(void)
     return found;
 }
 
-/* It takes no more memory than before, but for one part in 100. */
+/* It takes as much memory as before, but for one part in 100. */
 static void has_not_grown(long before)
 {
     IS(own_memory() <= before + before / 100, 1);

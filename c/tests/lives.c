@@ -1,4 +1,4 @@
-/* Threads: exit codes, ids, how they begin suspended and are resumed, and what is told of them by their handles, row by row. */
+/* Threads: exit codes, ids, how they begin suspended and are resumed, and what their handles answer, row by row. */
 #include <windows.h>
 
 #include <process.h>
@@ -208,7 +208,7 @@ static void priorities(void)
     CloseHandle(thread);
 }
 
-/* The process's answer is that of each thread that was told none since. */
+/* The process's answer is that of each thread that was given none since. */
 static void boosts(void)
 {
     HANDLE thread, self = GetCurrentThread(), process = GetCurrentProcess();

@@ -3,7 +3,7 @@
 #define MOST_PATIENCE 16
 #define TURNS_THAT_PAY 8
 #define TEST "lock_steps.c"
-#include "pairs.h"
+#include "shared_page.h"
 
 /* The caller takes the lock, and gives it back, until that favours it. */
 static struct seat *become_favoured(void)

@@ -98,7 +98,7 @@ static void objects(void)
     OBJECT(6, .kind = NT_TIMER, .manual = true, .set = true, .armed = true, .due = 70000, .period = 4);
 }
 
-/* Whether all is stuck, what is due, and who is of the knot; thread 2 makes no call any more if `over` says so. */
+/* Whether all is stuck, what is due, and who is of the knot; thread 2 makes no further call if `over` says so. */
 #define WHY(is_over, wanted_stuck, wanted_due, wanted_next, first, second, third) \
     do { \
         struct nt_why why = { !(wanted_stuck), !(wanted_due), 99 }; \

@@ -129,7 +129,7 @@ static DWORD_PTR mask_in(const SYSTEM_LOGICAL_PROCESSOR_INFORMATION_EX *entry)
     }
 }
 
-/* What is told of one relationship, or of all: each processor is in one entry of each. Answers how many bytes that takes. */
+/* What is answered of one relationship, or of all: each processor is in one entry of each. Answers how many bytes that takes. */
 static DWORD told_by_relationship(LOGICAL_PROCESSOR_RELATIONSHIP relationship, DWORD_PTR seen[5])
 {
     static union {

@@ -1,7 +1,7 @@
 /* Critical sections, initializations, barriers and completion ports in pairs (pairs.h): what a program has freed, by all that it may know, is not touched
  * again, nobody waits in vain, and each packet is gotten once. */
 #define TEST "more_steps.c"
-#include "pairs.h"
+#include "shared_page.h"
 
 /* ---- Critical sections, initializations and barriers. */
 

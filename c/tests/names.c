@@ -18,7 +18,7 @@ struct answer {
     const struct apc *apc;
 };
 
-/* An APC of the script. Those of a thread run in the wait that ends for them, and are told one by one by the lines that take them. */
+/* An APC of the script. Those of a thread run in the wait that ends for them, and are answered one by one by the lines that take them. */
 struct apc {
     uint64_t routine, arg;
 };
@@ -33,7 +33,7 @@ enum state { RESTS, CALLS, SLEEPS, HAS_ENDED };
 static struct player {
     enum state does;      /* under TURNS */
     struct answer answer; /* of its last call, once it rests */
-    struct answer ran[MOST_APCS]; /* its APCs that have run, and how many of them the script was told */
+    struct answer ran[MOST_APCS]; /* its APCs that have run, and how many of them the script was answered */
     size_t ran_count, taken;
 } PLAYERS[NT_MAXIMUM_THREADS];
 
@@ -57,7 +57,7 @@ static enum state does_now(struct player *player)
     return does;
 }
 
-/* What the player does, once that is not this any more. */
+/* What the player does, once that is no longer this. */
 static enum state does_after(struct player *player, enum state does)
 {
     pthread_mutex_lock(&TURNS);
@@ -186,7 +186,7 @@ static struct answer queued(void)
     return done(QueueUserAPC(run_queued, named(handle(2)), (ULONG_PTR)apc_at(3)) != 0);
 }
 
-/* The caller's oldest APC that has run and was not told yet. */
+/* The caller's oldest APC that has run and was not answered yet. */
 static struct answer taken(void)
 {
     struct player *player = myself();
@@ -332,7 +332,7 @@ static void write_grants(void)
     }
 }
 
-static void write_end(void)
+static void write_end_line(void)
 {
     bool any = false;
     printf("end: pending");
@@ -385,7 +385,7 @@ int main(void)
     }
     while (read_line())
         carry_out();
-    write_end();
+    write_end_line();
     end_all();
     return 0;
 }

@@ -24,7 +24,7 @@ static BOOL CALLBACK make(PINIT_ONCE once, PVOID parameter, PVOID *context)
     return TRUE;
 }
 
-/* It has a context with a bit that is not its own, for the first so many times. */
+/* It has a context with a bit that is not its own, for the first few times. */
 static BOOL CALLBACK make_badly(PINIT_ONCE once, PVOID parameter, PVOID *context)
 {
     (void)once;

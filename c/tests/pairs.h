@@ -1,14 +1,7 @@
-/* What the tests of pairs share: a pair of a call and a counter-call, in each window of one instruction (step.h); what they work on, in a page that is
- * taken away when it is freed; and a thread that waits meanwhile. */
+/* What the tests of pairs share: a pair of a call and a counter-call is tried in each window of one instruction (step.h). What the library or the
+ * program has freed is not touched again; where it is, the memory's header counts that (shared_page.h, own_pages.h, which include this). */
 #ifndef PAIRS_H
 #define PAIRS_H
-
-#define LOOKS_AT_LOCK 1
-#define LOOKS_AT_WORD 1
-#define WAITS_PER_TRY 4096
-#include "step.h"
-
-#include "../ntwin.c"
 
 #define counted counted_checks /* (ntwin.c has another.) */
 #include "check.h"
@@ -23,38 +16,22 @@ static bool is_passed_over(void)
 
 enum { PAGE = 4096, SECONDS_EACH_TIME = 120 };
 
-/* What the pairs work on, in a page of its own, which is taken away when it is freed. */
-static struct shared {
-    SRWLOCK lock;
-    CONDITION_VARIABLE variable;
-    CRITICAL_SECTION section;
-    SYNCHRONIZATION_BARRIER barrier;
-    INIT_ONCE once;
-    volatile LONG word;
-} *shared;
-static long touches; /* after it was freed */
+static _Atomic long touches; /* after it was freed */
 static const char *pair;
 static long number;
 
-static inline void free_shared(void)
-{
-    must(mprotect(shared, PAGE, PROT_NONE) == 0);
-}
+/* Makes the memory ready for a try. */
+static void renew_memory(void);
 
-static void renew_shared(void)
-{
-    must(mprotect(shared, PAGE, PROT_READ | PROT_WRITE) == 0);
-    memset(shared, 0, PAGE);
-}
+/* Whether the address is of the memory that may be touched after it was freed: then it can be touched from now on. */
+static bool give_back_page(char *at);
 
 static void on_touch(int signal, siginfo_t *info, void *context)
 {
     (void)signal, (void)context;
-    if (info->si_addr < (void *)shared || info->si_addr >= (void *)((char *)shared + PAGE))
+    if (!give_back_page((char *)info->si_addr))
         _exit(3);
     touches++;
-    if (mprotect(shared, PAGE, PROT_READ | PROT_WRITE) != 0)
-        _exit(4);
 }
 
 static void on_hang(int signal)
@@ -65,7 +42,7 @@ static void on_hang(int signal)
     _exit(write(STDOUT_FILENO, line, (size_t)length) < 0 ? 6 : 5);
 }
 
-/* Tries the pair at each instruction. At least so many are the call's own. */
+/* Tries the pair at each instruction. At least this number are the call's own. */
 static void try_pair(const char *name, act *prepare, act *call, act *other, act *finish, long least)
 {
     bool came = true;
@@ -75,7 +52,7 @@ static void try_pair(const char *name, act *prepare, act *call, act *other, act 
     for (number = -1; next_step(&number, &missed, came);) {
         alarm(SECONDS_EACH_TIME);
         touches = 0;
-        renew_shared();
+        renew_memory();
         prepare();
         came = step(call, other, number);
         finish();
@@ -87,53 +64,16 @@ static void try_pair(const char *name, act *prepare, act *call, act *other, act 
     alarm(0);
 }
 
-/* ---- A thread that waits as the pair begins. */
-
-static pthread_t waiter;
-
-static void *run_act(void *at)
-{
-    (*(act **)at)();
-    return NULL;
-}
-
-/* How many threads sleep for a lock. */
-static inline int count_sleepers(void)
-{
-    int count = 0;
-    take_latch(&sleepers.latch);
-    for (const struct sleeper *at = sleepers.first; at != NULL; at = at->later)
-        count++;
-    give_latch(&sleepers.latch);
-    return count;
-}
-
-/* Begins it, and waits until it sleeps for a lock. */
-static inline void begin_waiter(act *const *does)
-{
-    must(pthread_create(&waiter, NULL, run_act, (void *)(uintptr_t)does) == 0);
-    while (count_sleepers() == 0)
-        sched_yield();
-    usleep(100);
-}
-
-static inline void end_waiter(void)
-{
-    must(pthread_join(waiter, NULL) == 0);
-}
-
-static inline void nothing(void)
-{
-}
-
-/* As the test begins. */
-static void begin_pairs(void)
+/* As the test begins: what it works on lies in these pages. */
+static char *begin_pairs_in(size_t size, int access)
 {
     struct sigaction touch = { .sa_sigaction = on_touch, .sa_flags = SA_SIGINFO }, hang = { .sa_handler = on_hang };
     must(sigaction(SIGSEGV, &touch, NULL) == 0 && sigaction(SIGALRM, &hang, NULL) == 0);
-    shared = mmap(NULL, PAGE, PROT_READ | PROT_WRITE, MAP_PRIVATE | MAP_ANONYMOUS, -1, 0);
-    must(shared != MAP_FAILED);
+    char *at = mmap(NULL, size, access, MAP_PRIVATE | MAP_ANONYMOUS | MAP_NORESERVE, -1, 0);
+    must(at != MAP_FAILED);
+    setvbuf(stdout, NULL, _IOLBF, 0);
     begin_stepping();
+    return at;
 }
 
 #endif

@@ -160,12 +160,14 @@ static void stopped_waits(void)
     SetEvent(automatic);
     IS(later(&steps), 2);
     IS(WaitForSingleObject(automatic, 0), WAIT_OBJECT_0);
-    /* Stopped at once, wherever its thread is. */
+    /* Stopped at once, wherever its thread is. (On a machine that is held up a switch to others takes a while, so there are few.) */
     LONG swallowed = 0;
     for (int i = 0; i < 300; i++) {
         must(RegisterWaitForSingleObject(&wait, automatic, note_wait, NULL, INFINITE, WT_EXECUTEDEFAULT));
-        for (int turns = 0; turns < i % 50; turns++)
+        for (int turns = 0; turns < i % 3; turns++)
             SwitchToThread();
+        for (int rests = 0; rests < i % 50 * 300; rests++)
+            YieldProcessor();
         must(UnregisterWaitEx(wait, INVALID_HANDLE_VALUE));
         SetEvent(automatic);
         SwitchToThread();

@@ -1,105 +1,9 @@
 /* Pairs of a call of the pool and a counter-call, in each window of one instruction (step.h): what the library has freed, since a callback or the
  * program closed it, is not touched again; each callback comes once; and nobody waits in vain. */
-#define LOOKS_AT_LOCK 1
-#define LOOKS_AT_WORD 1
-#define WAITS_PER_TRY 4096
-#define RETRY_MS 1
-#include "step.h"
+#define TEST "pool_steps.c"
+#include "own_pages.h"
 
-#include "../ntwin/inside.h"
-static void *take_page(size_t size);
-static void give_page(void *at);
-static volatile bool is_full; /* the system has no thread more */
-#define malloc(size) UNSTEPPED(take_page(size))
-#define calloc(count, size) UNSTEPPED(take_page((count) * (size)))
-#define free(at) (clear_trap_flag(), give_page(at), step_on())
-#define pthread_create(thread, attributes, start, argument) \
-    UNSTEPPED(is_full ? EAGAIN : (pthread_create)(thread, attributes, start, argument))
-#include "../ntwin.c"
-#undef malloc
-#undef calloc
-#undef free
-#undef pthread_create
-
-#define counted counted_checks /* (ntwin.c has another.) */
-#include "check.h"
-
-/* What runs under the dispatcher's lock is for c/tests/schedules to try. */
-static bool is_passed_over(void)
-{
-    return lock_is(TAKEN) || lock_is(WANTED) || (own.seat != NULL && inside_of(own.seat) != 0);
-}
-
-enum { PAGE = 4096 };
-static const size_t MOST_PAGES = 1 << 20;
-
-/* ---- What the library allocates has a page of its own, which is taken away for good when it is freed. */
-
-static char *pages;
-static _Atomic size_t taken;
 static PTP_POOL pool;
-static _Atomic bool is_pool_gone;
-static _Atomic long touches; /* after that */
-
-static void *take_page(size_t size)
-{
-    char *at = pages + atomic_fetch_add(&taken, 1) * PAGE;
-    must(size <= PAGE && at < pages + MOST_PAGES * PAGE && mprotect(at, PAGE, PROT_READ | PROT_WRITE) == 0);
-    return at;
-}
-
-static void give_page(void *at)
-{
-    if (at != NULL && at == pool)
-        is_pool_gone = true;
-    if ((char *)at >= pages && (char *)at < pages + MOST_PAGES * PAGE)
-        must(mprotect(at, PAGE, PROT_NONE) == 0);
-    else
-        free(at);
-}
-
-static void on_touch(int signal, siginfo_t *info, void *context)
-{
-    char *at = (char *)((uintptr_t)info->si_addr & ~(uintptr_t)(PAGE - 1));
-    (void)signal, (void)context;
-    if (at < pages || at >= pages + MOST_PAGES * PAGE)
-        _exit(3);
-    touches++;
-    if (mprotect(at, PAGE, PROT_READ | PROT_WRITE) != 0)
-        _exit(4);
-}
-
-static const char *pair;
-static long number;
-
-static void on_hang(int signal)
-{
-    char line[128];
-    (void)signal;
-    const int length = snprintf(line, sizeof line, "c/tests/pool_steps.c: %s: it hangs at instruction %ld\n", pair, number);
-    _exit(write(STDOUT_FILENO, line, (size_t)length) < 0 ? 6 : 5);
-}
-
-/* Tries the pair at each instruction. At least so many are the call's own. */
-static void try_pair(const char *name, act *prepare, act *call, act *other, act *finish, long least)
-{
-    bool came = true;
-    int missed = 0;
-    long touched = 0;
-    pair = name;
-    for (number = -1; next_step(&number, &missed, came);) {
-        alarm(120);
-        touches = 0;
-        prepare();
-        came = step(call, other, number);
-        finish();
-        if (touches > 0 && touched++ == 0)
-            printf("c/tests/pool_steps.c: %s: memory that was freed is touched after a stop at instruction %ld\n", name, number);
-    }
-    IS(touched, 0);
-    IS(number >= least, true);
-    alarm(0);
-}
 
 /* ---- A pool of one thread, which is in a callback until it may go on. What it takes up then closes all: so the pool is gone with that thread. */
 
@@ -145,11 +49,11 @@ static void CALLBACK close_wait_and_pool(PTP_CALLBACK_INSTANCE instance, PVOID n
 
 static void open_pool(void)
 {
-    pool = CreateThreadpool(NULL);
+    to_be_freed = pool = CreateThreadpool(NULL);
     SetThreadpoolThreadMaximum(pool, 1);
     InitializeThreadpoolEnvironment(&environment);
     SetThreadpoolCallbackPool(&environment, pool);
-    is_busy = may_go_on = is_pool_gone = false;
+    is_busy = may_go_on = false;
     ran = 0;
 }
 
@@ -170,7 +74,7 @@ static void go_on(void)
 
 static void pool_is_gone(void)
 {
-    while (!is_pool_gone)
+    while (to_be_freed != NULL)
         doze();
     IS(ran, 1);
 }
@@ -290,7 +194,7 @@ static void group_has_run(void)
     IS(ran, !is_full);
     CloseThreadpoolCleanupGroup(group);
     CloseThreadpool(pool);
-    while (!is_pool_gone)
+    while (to_be_freed != NULL)
         doze();
 }
 
@@ -325,7 +229,7 @@ static void work_alone_has_run(void)
     IS(ran, 1);
     CloseThreadpoolWork(first);
     CloseThreadpool(pool);
-    while (!is_pool_gone)
+    while (to_be_freed != NULL)
         doze();
 }
 
@@ -396,14 +300,10 @@ static void unset_wait(void)
 
 int main(void)
 {
-    struct sigaction touch = { .sa_sigaction = on_touch, .sa_flags = SA_SIGINFO }, hang = { .sa_handler = on_hang };
-    must(sigaction(SIGSEGV, &touch, NULL) == 0 && sigaction(SIGALRM, &hang, NULL) == 0);
-    pages = mmap(NULL, MOST_PAGES * PAGE, PROT_NONE, MAP_PRIVATE | MAP_ANONYMOUS | MAP_NORESERVE, -1, 0);
-    must(pages != MAP_FAILED && (event = CreateEvent(NULL, FALSE, FALSE, NULL)) != NULL);
+    begin_pairs();
+    must((event = CreateEvent(NULL, FALSE, FALSE, NULL)) != NULL);
     /* (The test keeps the time.) */
     timers.is_kept = true;
-    setvbuf(stdout, NULL, _IOLBF, 0);
-    begin_stepping();
     callbacks_that_close();
     try_pair("a thread of a pool", with_queue, be_thread_of_pool, wait_and_close, pool_is_gone, 100);
     try_pair("TrySubmitThreadpoolCallback", with_group, submit_to_group, close_members, group_has_run, 50);

@@ -75,7 +75,7 @@ static uint32_t hear_told(uint32_t refused, const struct nt_told *told)
     return 0;
 }
 
-/* The caller's wait of so many ms, which began then, has answered this. */
+/* The caller's wait of this number of ms, which began then, has answered this. */
 static void check_wait(DWORD status, DWORD ms, uint64_t began)
 {
     if (status == WAIT_FAILED)
@@ -220,6 +220,7 @@ int main(int count, char **words)
     const uint64_t programs = count > 1 ? strtoull(words[1], NULL, 10) : 3000, first = count > 2 ? strtoull(words[2], NULL, 10) : 1;
     trace.file = count > 3 ? fopen(words[3], "w") : NULL;
     run.look = look_at_all;
+    run.handle = act_in_handler;
     for (uint64_t seed = first; seed < first + programs; seed++) {
         begin_anew();
         run_all(drive, seed);
@@ -230,7 +231,7 @@ int main(int count, char **words)
     printf("%llu calls, %llu waits, %llu of them ended later, %llu timeouts, %llu called to look at the time, ", sums.calls, sums.waits,
            sums.grants, sums.timeouts, sums.calls_up);
     printf("%llu APCs, %llu threads made, %llu ends\n", sums.apcs, sums.threads, sums.ends);
-    tell_counts(programs);
+    tell_counts();
     printf("%llu passed, 0 failed\n", (unsigned long long)programs);
     return 0;
 }

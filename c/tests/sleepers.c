@@ -15,7 +15,7 @@ static void *room(void)
     return aligned_alloc(16, (nt_room() + 15) / 16 * 16);
 }
 
-/* What is told at this index. */
+/* What is reported at this index. */
 #define TELLS(index, wanted_thread, wanted_status, wanted_called) \
     do { \
         struct nt_told told = { 99, 99, !(wanted_called) }; \
@@ -32,7 +32,7 @@ static void *room(void)
         IS(told.thread, 99); \
     } while (0)
 
-/* The thread sleeps to this moment, or until it is told. */
+/* The thread sleeps to this moment, or until nt_told names it. */
 #define SLEEPS_TO(thread, watches, wanted) \
     do { \
         uint64_t moment = 99; \

@@ -1,7 +1,7 @@
 /* SRW locks, condition variables and addresses in pairs (pairs.h): what a program has freed, by all that it may know, is not touched again, and no wake
  * is lost. */
 #define TEST "steps.c"
-#include "pairs.h"
+#include "shared_page.h"
 
 /* ---- An SRW lock is given back, and who takes it then frees it. */
 
@@ -147,7 +147,7 @@ static void look_at_variable(void)
     was_woken = sleep_on_variable_for(0);
 }
 
-/* Waits until so many have begun to sleep. The caller then has the lock. */
+/* Waits until that number have begun to sleep. The caller then has the lock. */
 static void lock_once_they_sleep(LONG count)
 {
     for (AcquireSRWLockExclusive(&lock_of_variable); sleeping < count; AcquireSRWLockExclusive(&lock_of_variable)) {

@@ -40,7 +40,7 @@ static HANDLE event(void)
     return CreateEvent(NULL, FALSE, FALSE, NULL);
 }
 
-/* A timer that is due so many ms from now. */
+/* A timer that is due this number of ms from now. */
 static HANDLE timer(LONGLONG ms)
 {
     const LARGE_INTEGER due = { .QuadPart = -milliseconds(ms) };

@@ -81,7 +81,7 @@ static void begin(DWORD number, LPTHREAD_START_ROUTINE run, LPVOID argument)
     CloseHandle(thread);
 }
 
-/* What is told. */
+/* What is written. */
 static char *told(void)
 {
     static char text[1 << 14];
@@ -115,7 +115,7 @@ static int lines_told(void)
     return lines;
 }
 
-/* Whether a line is told, after a minute at the latest. */
+/* Whether a line is written, after a minute at the latest. */
 static int is_told(const char *line)
 {
     for (int i = 0; i < 60000; i++) {
@@ -166,7 +166,7 @@ int main(void)
     TOLD("thread %u waits on the address %p\n", IDS[6], (void *)&ADDRESS);
     TOLD("thread %u waits at the barrier %p\n", IDS[7], (void *)&BARRIER);
     TOLD("thread %u waits for the one-time initialization %p to be done\n", IDS[8], (void *)&ONCE);
-    /* Who waits no longer is not told of. */
+    /* Who waits no longer is not named. */
     ReleaseSRWLockShared(&SHARED);
     WakeConditionVariable(&VARIABLE);
     InterlockedIncrement(&ADDRESS);

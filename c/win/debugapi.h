@@ -1,5 +1,5 @@
 /* SPDX-License-Identifier: MIT OR Apache-2.0 */
-/* What a program tells a debugger: there is no way to, so nothing is told. */
+/* What a program tells a debugger: there is no way to, so it hears nothing. */
 #ifndef NTWIN_DEBUGAPI_H
 #define NTWIN_DEBUGAPI_H
 

@@ -18,7 +18,7 @@ extern "C" {
 UINT SetErrorMode(UINT mode);
 UINT GetErrorMode(void);
 /* Calls the handlers of below, until one answers EXCEPTION_CONTINUE_EXECUTION. If none does the process ends, by SIGABRT; but 0x406D1388, by which a
- * debugger is told a thread's name, then changes nothing. */
+ * debugger learns a thread's name, then changes nothing. */
 void RaiseException(DWORD code, DWORD flags, DWORD count, const ULONG_PTR *arguments);
 /* A handler, as the first or the last, of exceptions that are raised by this call: what the processor finds wrong is a signal. Answers what removes
  * it; null where memory was refused. */

@@ -46,7 +46,7 @@ DWORD GetModuleFileNameA(HMODULE module, LPSTR path, DWORD size);
 DWORD GetModuleFileNameW(HMODULE module, LPWSTR path, DWORD size);
 /* By its name; none has a number. */
 FARPROC GetProcAddress(HMODULE module, LPCSTR name);
-/* No library is told that a thread begins or ends: nothing changes. */
+/* No library learns that a thread begins or ends: nothing changes. */
 BOOL DisableThreadLibraryCalls(HMODULE module);
 
 #ifdef UNICODE

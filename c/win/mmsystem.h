@@ -24,7 +24,7 @@ typedef TIMECALLBACK *LPTIMECALLBACK;
 #define TIME_CALLBACK_EVENT_PULSE 0x0020u
 #define TIME_KILL_SYNCHRONOUS 0x0100u
 
-/* The callback, or the event in its place, comes after so many ms, once or in each such period. Answers the timer's number; 0 where that is refused, as
+/* The callback, or the event in its place, comes after `ms`, once or in each such period. Answers the timer's number; 0 where that is refused, as
  * it is past 16 timers. The resolution is as the system has it. */
 MMRESULT timeSetEvent(UINT ms, UINT resolution, LPTIMECALLBACK callback, DWORD_PTR user, UINT how);
 /* Refused with 11 where there is no such timer, or it came and was for once. */

@@ -143,7 +143,7 @@ typedef struct _RTL_BARRIER {
 #define SYNCHRONIZATION_BARRIER_FLAGS_BLOCK_ONLY 0x2u
 #define SYNCHRONIZATION_BARRIER_FLAGS_NO_DELETE 0x4u
 
-/* For so many threads; `spins` of -1 is the usual number of looks. */
+/* For this number of threads; `spins` of -1 is the usual number of looks. */
 BOOL InitializeSynchronizationBarrier(LPSYNCHRONIZATION_BARRIER barrier, LONG threads, LONG spins);
 /* TRUE in the thread that comes last. */
 BOOL EnterSynchronizationBarrier(LPSYNCHRONIZATION_BARRIER barrier, DWORD flags);

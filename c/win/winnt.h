@@ -125,7 +125,7 @@ typedef struct _EXCEPTION_RECORD {
     ULONG_PTR ExceptionInformation[EXCEPTION_MAXIMUM_PARAMETERS];
 } EXCEPTION_RECORD, *PEXCEPTION_RECORD;
 
-/* (The context is null: no registers are told.) */
+/* (The context is null: no registers are given.) */
 typedef struct _CONTEXT *PCONTEXT, *LPCONTEXT;
 typedef struct _EXCEPTION_POINTERS {
     PEXCEPTION_RECORD ExceptionRecord;

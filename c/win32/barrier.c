@@ -63,6 +63,7 @@ BOOL DeleteSynchronizationBarrier(LPSYNCHRONIZATION_BARRIER barrier)
     struct barrier *it = (struct barrier *)(void *)barrier;
     const DWORD error = own.last_error;
     uint32_t inside;
+    comes_after(&it->come);
     while ((inside = atomic_load_explicit(&it->inside, memory_order_acquire)) != 0)
         wait_on(&it->inside, &inside, sizeof inside, 1, OF_LIBRARY);
     own.last_error = error;

@@ -158,6 +158,9 @@ static void run_callback(struct task *task, uint32_t outcome)
 {
     struct _TP_CALLBACK_INSTANCE instance = { .task = task, .pool = task->pool };
     call_program(task, &instance, outcome);
+    /* (One from which the thread is apart may be gone.) */
+    if (!instance.is_apart && task->after != NULL)
+        task->after(task);
     do_what_was_asked(&instance);
     if (instance.is_apart)
         return;
@@ -264,7 +267,7 @@ static DWORD WINAPI work_in_pool(LPVOID at)
 }
 
 /* Waits until the task has no callback, and tries meanwhile to have threads that were refused; first drops callbacks that have not begun, where
- * `cancels`. Answers how many were dropped. (In a child that was forked beside others no callback ends any more, and none is waited for.) */
+ * `cancels`. Answers how many were dropped. (In a child that was forked beside others no callback ends from then on, and none is waited for.) */
 static uint32_t wait_for_task(struct task *task, bool cancels)
 {
     const DWORD error = own.last_error;

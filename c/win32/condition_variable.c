@@ -20,7 +20,7 @@ static struct parking *begin_to_sleep(PCONDITION_VARIABLE variable)
 
 BOOL SleepConditionVariableCS(PCONDITION_VARIABLE variable, PCRITICAL_SECTION section, DWORD ms)
 {
-    may_switch();
+    may_switch_at(variable);
     const uint64_t moment = moment_after(ms);
     struct parking *parking = begin_to_sleep(variable);
     LeaveCriticalSection(section);
@@ -34,7 +34,7 @@ BOOL SleepConditionVariableSRW(PCONDITION_VARIABLE variable, PSRWLOCK lock, DWOR
     const bool is_shared = (flags & CONDITION_VARIABLE_LOCKMODE_SHARED) != 0;
     if ((flags & ~CONDITION_VARIABLE_LOCKMODE_SHARED) != 0)
         return fail(ERROR_INVALID_PARAMETER);
-    may_switch();
+    may_switch_at(variable);
     const uint64_t moment = moment_after(ms);
     struct parking *parking = begin_to_sleep(variable);
     (is_shared ? ReleaseSRWLockShared : ReleaseSRWLockExclusive)(lock);
@@ -46,7 +46,7 @@ BOOL SleepConditionVariableSRW(PCONDITION_VARIABLE variable, PSRWLOCK lock, DWOR
 /* (Who sleeps there was counted before it let the lock go, which the caller has had since.) */
 static void wake_sleepers(PCONDITION_VARIABLE variable, uint32_t most)
 {
-    may_switch();
+    may_switch_at(variable);
     if (atomic_load_explicit(&parking_of(variable)->count, memory_order_relaxed) != 0)
         unpark(variable, most);
 }

@@ -107,13 +107,13 @@ __attribute__((noinline)) static void enter_taken(LPCRITICAL_SECTION section, DW
     own_section(section, id);
 }
 
-/* What a sanitizer is told of who enters and leaves. */
+/* What a sanitizer learns of who enters and leaves. */
 __attribute__((noinline, cold)) static void tell_of_entering(LPCRITICAL_SECTION section)
 {
     comes_after(word_of(section));
 }
 
-/* The caller's id, which is its mark from now on, where neither a sanitizer nor a scheduler is told of each section. */
+/* The caller's id, which is its mark from now on, where neither a sanitizer nor a scheduler learns of each section. */
 __attribute__((noinline)) static DWORD mark_caller(void)
 {
     const DWORD id = id_of_caller();
@@ -127,7 +127,7 @@ __attribute__((noinline)) static void enter_unmarked(LPCRITICAL_SECTION section)
     const DWORD id = mark_caller();
     if (enter_again(section, id))
         return;
-    may_switch();
+    may_switch_at(word_of(section));
     if (try_section(section))
         own_section(section, id);
     else
@@ -157,7 +157,7 @@ BOOL TryEnterCriticalSection(LPCRITICAL_SECTION section)
     const DWORD id = own.mark != 0 ? own.mark : mark_caller();
     if (enter_again(section, id))
         return TRUE;
-    may_switch();
+    may_switch_at(word_of(section));
     if (!try_section(section))
         return FALSE;
     own_section(section, id);
@@ -191,7 +191,7 @@ void LeaveCriticalSection(LPCRITICAL_SECTION section)
     __atomic_store_n(&section->OwningThread, NULL, __ATOMIC_RELAXED);
     if (is_alone())
         __atomic_store_n(&section->LockCount, SECTION_FREE, __ATOMIC_RELAXED);
-    else if (has_sanitizer())
+    else if (is_told())
         tell_and_give_section(section);
     else
         give_section(section);

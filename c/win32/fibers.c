@@ -12,7 +12,7 @@ struct fiber {
     size_t size;
     _Atomic bool runs;
     struct storage storage;    /* but what is in the slots of TlsAlloc */
-    const void *bottom;        /* of the stack; this and what follows is told to sanitizers */
+    const void *bottom;        /* of the stack; this and what follows is for sanitizers */
     size_t height;
     void *frames, *history;
 };
@@ -119,7 +119,7 @@ static void free_fiber(struct fiber *fiber)
     free(fiber);
 }
 
-/* A stack of so many bytes above its guard page. False where memory is refused. */
+/* A stack of this number of bytes above its guard page. False where memory is refused. */
 static bool make_stack(struct fiber *fiber, size_t size)
 {
     fiber->size = (size + 2 * GUARD - 1) / GUARD * GUARD;

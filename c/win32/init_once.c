@@ -35,7 +35,7 @@ BOOL InitOnceBeginInitialize(LPINIT_ONCE once, DWORD flags, PBOOL pending, LPVOI
     const bool is_async = (flags & INIT_ONCE_ASYNC) != 0, only_checks = (flags & INIT_ONCE_CHECK_ONLY) != 0;
     if ((flags & ~(INIT_ONCE_ASYNC | INIT_ONCE_CHECK_ONLY)) != 0 || (is_async && only_checks))
         return fail(ERROR_INVALID_PARAMETER);
-    may_switch();
+    may_switch_at_seen(once);
     for (;;) {
         uintptr_t value = once_of(once);
         const uintptr_t stand = value & ONCE_BITS;

@@ -32,7 +32,7 @@ static inline void give_latch(_Atomic uint32_t *latch)
         wake_one(latch);
 }
 
-/* Wakes up to so many threads of those that sleep on the word among these. */
+/* Wakes up to this number of those threads that sleep on the word among these. */
 static void wake_among(_Atomic uint32_t *word, int count, uint32_t bits)
 {
     if (woke_by_schedule(word, count, bits))

@@ -1,5 +1,5 @@
 /* SPDX-License-Identifier: MIT OR Apache-2.0 */
-/* ---- What is told of a thread: how it begins and ends. */
+/* ---- What is known of a thread: how it begins and ends. */
 
 /* The system's own name of the thread. */
 static void name_task(pid_t task, PCWSTR description)

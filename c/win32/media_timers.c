@@ -67,12 +67,17 @@ static void CALLBACK call_media_timer(PVOID number, BOOLEAN is_timeout)
         return;
     is_in_media_timer = true;
     call_or_signal(&it);
+}
+
+/* Its callback has ended, maybe by ExitThread: one that comes once leaves its place. */
+static void end_media_callback(struct task *task)
+{
     is_in_media_timer = false;
-    if ((it.how & TIME_PERIODIC) == 0) {
-        it = take_media_timer(it.number);
-        if (it.timer != NULL)
-            close_task(&it.timer->task, NULL);
-    }
+    if (((PTP_TIMER)(void *)task)->period != 0)
+        return;
+    const struct media_timer it = take_media_timer((UINT)(uintptr_t)task->context);
+    if (it.timer != NULL)
+        close_task(task, NULL);
 }
 
 /* Takes a free place, under the latch. Null where there is none. */
@@ -100,7 +105,7 @@ static void fill_place(struct media_timer *place, struct media_timer it)
 MMRESULT timeSetEvent(UINT ms, UINT resolution, LPTIMECALLBACK callback, DWORD_PTR user, UINT how)
 {
     const DWORD error = own.last_error;
-    const struct _TP_TIMER what = { .queue_callback = call_media_timer, .in_thread = true };
+    const struct _TP_TIMER what = { .task.after = end_media_callback, .queue_callback = call_media_timer, .in_thread = true };
     (void)resolution;
     if (ms == 0 || ms > LONGEST_DELAY_MS || callback == NULL)
         return 0;

@@ -217,7 +217,7 @@ static bool read_path(HMODULE module, char path[PATH_MAX])
     return realpath(name[0] != 0 ? name : "/proc/self/exe", path) != NULL || fail(ERROR_MOD_NOT_FOUND);
 }
 
-/* Gives a text, whose characters have so many bytes, and what ends it, or as much as there is room for. Answers as GetModuleFileName. */
+/* Gives a text, whose characters have this number of bytes, and what ends it, or as much as there is room for. Answers as GetModuleFileName. */
 static DWORD give_text(void *to, DWORD room, const void *text, size_t length, size_t bytes)
 {
     const bool fits = length < room;

@@ -79,7 +79,7 @@ static bool look_whether_unparked(void)
     return is_unparked();
 }
 
-/* A moment of the monotonic clock that comes after so many milliseconds, or NEVER. */
+/* A moment of the monotonic clock that comes after this number of milliseconds, or NEVER. */
 static uint64_t moment_after(DWORD ms)
 {
     return ms == INFINITE ? NEVER : monotonic() + (uint64_t)ms * (MOMENTS_PER_SECOND / 1000);
@@ -155,12 +155,22 @@ static bool is_same(const volatile void *address, const void *compare, SIZE_T si
     }
 }
 
+/* A point before that. (What the library itself waits for is changed with other things, which are not known here.) */
+__attribute__((noinline, cold)) static void come_to_address(const volatile void *address, enum why why)
+{
+    if (why == ON_ADDRESS || why == FOR_ONCE)
+        come_to_object(address);
+    else
+        come_to(AT_CALL);
+}
+
 /* As WaitOnAddress. */
 static BOOL wait_on(volatile void *address, const void *compare, SIZE_T size, DWORD ms, enum why why)
 {
     if (size != 1 && size != 2 && size != 4 && size != 8)
         return fail(ERROR_INVALID_PARAMETER);
-    may_switch();
+    if (by_schedule())
+        come_to_address(address, why);
     if (!is_same(address, compare, size))
         return TRUE;
     const uint64_t moment = moment_after(ms);
@@ -184,7 +194,7 @@ BOOL WaitOnAddress(volatile VOID *address, PVOID compare, SIZE_T size, DWORD ms)
 
 static void wake_by_address(PVOID address, uint32_t most)
 {
-    may_switch();
+    may_switch_at(address);
     atomic_thread_fence(memory_order_seq_cst);
     if (atomic_load_explicit(&parking_of(address)->count, memory_order_relaxed) != 0)
         unpark(address, most);

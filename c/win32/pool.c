@@ -28,7 +28,7 @@ struct _TP_POOL {
 struct _TP_CALLBACK_INSTANCE {
     struct task *task;
     PTP_POOL pool;
-    bool is_apart;               /* nobody waits for this callback any more */
+    bool is_apart;               /* nobody waits for this callback any longer */
     HANDLE event, mutex, semaphore;
     DWORD count;
     PCRITICAL_SECTION section;
@@ -36,6 +36,7 @@ struct _TP_CALLBACK_INSTANCE {
 
 struct task {
     void (*call)(struct task *task, PTP_CALLBACK_INSTANCE instance, uint32_t outcome); /* calls the program's callback */
+    void (*after)(struct task *task);  /* what the library does once a callback has ended, however it did; null for nothing */
     void (*end)(struct task *task);    /* frees it */
     PVOID context;
     PTP_POOL pool;
@@ -48,7 +49,7 @@ struct task {
     PTP_CLEANUP_GROUP group;
     struct task *earlier, *later; /* in the group */
     PTP_CLEANUP_GROUP_CANCEL_CALLBACK cancel;
-    void (*stop)(struct task *task); /* no callback comes any more by itself; null where none does */
+    void (*stop)(struct task *task); /* no callback comes any longer by itself; null where none does */
     struct watch *watch;         /* what waits for its object; null where nothing does */
 };
 
@@ -83,7 +84,7 @@ static bool leave_pools(PTP_POOL pool)
 
 static DWORD WINAPI work_in_pool(LPVOID pool);
 
-/* How many of its threads the system refuses no more, under the latch. (Of two that it gave one may hide another, while who started the one that has
+/* How many threads the system no longer refuses it, under the latch. (Of two that it gave one may hide another, while who started the one that has
  * begun is held up.) */
 static uint32_t known_threads(const struct _TP_POOL *pool)
 {

@@ -13,7 +13,7 @@ static void note_port(uint32_t number, uint32_t other)
         ++*handles_of_port(port);
 }
 
-/* The number names nothing any more. Answers the port whose last handle it was; null where it was not. */
+/* The number names nothing from now on. Answers the port whose last handle it was; null where it was not. */
 static struct port *forget_port(uint32_t number)
 {
     struct port *port = waiting.ports[number];

@@ -234,7 +234,7 @@ static HANDLE event_to_wait(void)
 
 /* ---- Packets are posted and gotten. */
 
-/* The last handle of a port is closed: who waits there is told so. */
+/* The last handle of a port is closed: who waits there learns that. */
 static void close_port(struct port *port)
 {
     take_latch(&ports_latch);
@@ -305,7 +305,7 @@ static struct packet *wait_for_packet(struct port *port, DWORD ms, BOOL alertabl
     }
     *error = ERROR_ABANDONED_WAIT_0;
     if (status != WAIT_OBJECT_0) {
-        /* (It was told just then: the event is set, or about to be.) */
+        /* (It was notified just then: the event is set, or about to be.) */
         give_latch(&ports_latch);
         WaitForSingleObject(event, INFINITE);
         take_latch(&ports_latch);
@@ -326,7 +326,7 @@ static ULONG get_packets(HANDLE handle, LPOVERLAPPED_ENTRY entries, ULONG count,
         drop_packet();
     take_latch(&ports_latch);
     struct packet *packet = begin_to_get(port);
-    /* (It may be closed since its handle was looked up: who waits from then on would be told by nobody.) */
+    /* (It may be closed since its handle was looked up: who waits from then on would be woken by nobody.) */
     if (packet == NULL && port->is_closed)
         error = ERROR_ABANDONED_WAIT_0;
     else if (packet == NULL && event != NULL && (ms > 0 || alertable))

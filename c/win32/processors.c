@@ -14,7 +14,7 @@ void GetCurrentProcessorNumberEx(PPROCESSOR_NUMBER number)
     *number = (PROCESSOR_NUMBER){ .Number = (BYTE)GetCurrentProcessorNumber() };
 }
 
-/* A bit for each of so many processors, of 64 at the most. */
+/* A bit for each of this number of processors, of 64 at the most. */
 static DWORD_PTR mask_of(long processors)
 {
     return processors >= MAXIMUM_PROCESSORS ? ~(DWORD_PTR)0 : ((DWORD_PTR)1 << processors) - 1;

@@ -1,6 +1,6 @@
 /* SPDX-License-Identifier: MIT OR Apache-2.0 */
 /* ---- Who sleeps for a lock, for those who ask why threads wait (told.c). It is noted just before a thread falls asleep, and no longer once it has
- * the lock, so a lock that is told of is still there. */
+ * the lock, so a lock that is named is still there. */
 
 struct sleeper {
     struct sleeper *earlier, *later;

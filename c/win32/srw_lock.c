@@ -133,7 +133,7 @@ void InitializeSRWLock(PSRWLOCK lock)
 
 BOOLEAN TryAcquireSRWLockExclusive(PSRWLOCK lock)
 {
-    may_switch();
+    may_switch_at(lock);
     struct srw *srw = srw_of(lock);
     uint32_t state = state_of(srw);
     while (is_nobodys(state))
@@ -146,7 +146,7 @@ BOOLEAN TryAcquireSRWLockExclusive(PSRWLOCK lock)
 
 void AcquireSRWLockExclusive(PSRWLOCK lock)
 {
-    may_switch();
+    may_switch_at(lock);
     struct srw *srw = srw_of(lock);
     uint32_t state = 0;
     if (!swap_state(srw, &state, ALONE))
@@ -163,7 +163,7 @@ void ReleaseSRWLockExclusive(PSRWLOCK lock)
 
 BOOLEAN TryAcquireSRWLockShared(PSRWLOCK lock)
 {
-    may_switch();
+    may_switch_at(lock);
     struct srw *srw = srw_of(lock);
     uint32_t state = state_of(srw);
     while (may_share(state))
@@ -176,7 +176,7 @@ BOOLEAN TryAcquireSRWLockShared(PSRWLOCK lock)
 
 void AcquireSRWLockShared(PSRWLOCK lock)
 {
-    may_switch();
+    may_switch_at(lock);
     struct srw *srw = srw_of(lock);
     uint32_t state = state_of(srw);
     if (!may_share(state) || !swap_state(srw, &state, state + SHARER))

@@ -120,7 +120,7 @@ static PVOID take_value(struct storage *of_thread, enum slot_kind kind, DWORD in
     return atomic_exchange_explicit(&value->value, NULL, memory_order_acq_rel);
 }
 
-/* The first value in an FLS slot from this index on that has a callback, which is taken out; null where there is none any more. */
+/* The first value in an FLS slot from this index on that has a callback, which is taken out; null where there is none left. */
 static PVOID next_fls_value(struct storage *of_thread, DWORD *index, PFLS_CALLBACK_FUNCTION *callback)
 {
     PVOID value = NULL;
@@ -145,7 +145,7 @@ static bool hand_back_values(struct storage *of_thread)
     return is_any;
 }
 
-/* The callbacks get all values, those too that callbacks set, as often as destructors are called; and there is none any more. */
+/* The callbacks get all values, those too that callbacks set, as often as destructors are called; and there is none left. */
 static void empty_storage(struct storage *it)
 {
     for (int round = 0; round < PTHREAD_DESTRUCTOR_ITERATIONS && hand_back_values(it); round++)

@@ -46,10 +46,10 @@ DWORD GetVersion(void)
     return MAJOR | MINOR << 8 | (DWORD)BUILD << 16;
 }
 
-/* The fields of a version; what begins each of the longer structures is the shorter one. The text has so many characters and bytes of them. */
+/* The fields of a version; what begins each of the longer structures is the shorter one. How many characters its text has. */
 enum { CHARACTERS_OF_VERSION = sizeof(((OSVERSIONINFOA *)0)->szCSDVersion), LONGER = sizeof(OSVERSIONINFOEXA) - sizeof(OSVERSIONINFOA) };
 
-/* Writes the structure of this size, whose characters have so many bytes. False where it is none. */
+/* Writes the structure of this size, whose characters have this number of bytes. False where it is none. */
 static bool write_version(void *to, DWORD size, size_t bytes)
 {
     const OSVERSIONINFOA found = { size, MAJOR, MINOR, BUILD, VER_PLATFORM_WIN32_NT, "" };

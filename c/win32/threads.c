@@ -1,16 +1,14 @@
 /* SPDX-License-Identifier: MIT OR Apache-2.0 */
-/* ---- What is told of a thread by its handle. */
+/* ---- What a thread's handle answers. */
 
-/* The thread that this handle names, with the lock taken; null, with the last error set and the lock given back, where it names none. (A list with a
- * handle twice is refused, for an unknown handle with 6 before: so nothing is waited for.) */
+/* The thread that this handle names, with the lock taken; null, with the last error set and the lock given back, where it names none. */
 static struct seat *begin_with_thread(HANDLE handle, struct seat **caller)
 {
     struct seat *seat = *caller = begin();
     if (seat == NULL || handle == CURRENT_THREAD)
         return seat;
-    const uint32_t number = listed_number_of(handle), twice[] = { number, number };
-    if (number == NO_HANDLE || kind_of(number) != KIND_THREAD
-        || nt_wait(&waiting.dispatcher, seat->number, twice, 2, false, 0, false, &seat->reply) == ERROR_INVALID_HANDLE) {
+    const uint32_t number = listed_number_of(handle);
+    if (number == NO_HANDLE || kind_of(number) != KIND_THREAD) {
         end_look(seat, ERROR_INVALID_HANDLE);
         return NULL;
     }

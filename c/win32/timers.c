@@ -41,7 +41,7 @@ static void sift_timer(PTP_TIMER timer)
     place_timer(timer, at);
 }
 
-/* It is due no more. */
+/* It is no longer due. */
 static void drop_timer(PTP_TIMER timer)
 {
     const size_t place = timer->place;
@@ -313,7 +313,7 @@ BOOL DeleteTimerQueueTimer(HANDLE queue, HANDLE timer, HANDLE event)
     return end_task(&((PTP_TIMER)timer)->task, event);
 }
 
-/* No timer of the queue is due any more, and each is gone once its callbacks have ended, under the latch. Answers one that has none, or null. */
+/* No timer of the queue is due any longer, and each is gone once its callbacks have ended, under the latch. Answers one that has none, or null. */
 static struct task *close_timers(PTP_CLEANUP_GROUP queue)
 {
     struct task *idle = NULL;

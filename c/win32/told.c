@@ -1,6 +1,6 @@
 /* SPDX-License-Identifier: MIT OR Apache-2.0 */
 /* ---- Why threads wait that sleep beside the dispatcher: for a lock, on a condition variable or an address, at a barrier, for an initialization or for
- * callbacks. A thread that still looks before it sleeps is not told of. */
+ * callbacks. A thread that still looks before it sleeps is not named. */
 
 enum { TOLD_AT_MOST = 512 };
 

@@ -67,7 +67,7 @@ enum {
 };
 _Static_assert(sizeof(NUMA_NODE_RELATIONSHIP) == sizeof(PROCESSOR_RELATIONSHIP), "an entry of a node takes what one of a core does");
 
-/* Begins an entry of so many bytes, which are 0. Answers where the next begins. */
+/* Begins an entry of this number of bytes, which are 0. Answers where the next begins. */
 static BYTE *begin_entry(BYTE *at, LOGICAL_PROCESSOR_RELATIONSHIP relationship, DWORD size)
 {
     PSYSTEM_LOGICAL_PROCESSOR_INFORMATION_EX entry = (PSYSTEM_LOGICAL_PROCESSOR_INFORMATION_EX)(void *)at;

@@ -10,7 +10,7 @@ struct watch {
     DWORD ms;
     uint64_t moment;       /* to which it waits at the longest, or NEVER */
     bool is_once, in_thread;
-    bool is_stopped;       /* `told` is not touched any more */
+    bool is_stopped;       /* `told` is no longer touched */
 };
 
 /* The object is not waited for any longer, under the latch: what is signaled from now on stays so. */

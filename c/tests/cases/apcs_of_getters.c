@@ -11,6 +11,7 @@ enum { ROUNDS = 3 };
 static HANDLE port;
 static jmp_buf back;
 static LONG inner, left, is_inner;
+static LONG task; /* the system's number of the thread that was begun */
 
 static BOOL gets(DWORD ms, ULONG_PTR *key)
 {
@@ -77,18 +78,20 @@ static DWORD leaves_by_jump(LPVOID none)
     ULONG_PTR key = 0;
     (void)none;
     if (setjmp(back) == 0) {
+        InterlockedExchange(&task, gettid());
         gets_alertably(INFINITE, &key);
         return 99;
     }
     use_stack();
     raise_flag(&left);
-    return gets(5000, &key) ? (DWORD)key : 98;
+    return gets(INFINITE, &key) ? (DWORD)key : 98;
 }
 
 static DWORD ends_by_apc(LPVOID none)
 {
     ULONG_PTR key;
     (void)none;
+    InterlockedExchange(&task, gettid());
     gets_alertably(INFINITE, &key);
     return 99;
 }
@@ -97,6 +100,7 @@ static DWORD gets_twice(LPVOID none)
 {
     ULONG_PTR key = 0;
     (void)none;
+    InterlockedExchange(&task, gettid());
     DWORD sum = gets_alertably(INFINITE, &key) == 0 && GetLastError() == WAIT_IO_COMPLETION ? 100 : 0;
     if (gets_alertably(INFINITE, &key) == 1)
         sum += (DWORD)key;
@@ -114,9 +118,11 @@ static DWORD code_of(HANDLE thread)
 /* Begins a thread, and queues an APC to it once it sleeps. */
 static HANDLE begun(LPTHREAD_START_ROUTINE does, PAPCFUNC routine, ULONG_PTR argument)
 {
+    task = 0;
     HANDLE thread = CreateThread(NULL, 0, does, NULL, 0, NULL);
     must(thread != NULL);
-    rest_ms(30);
+    await(&task);
+    wait_until_asleep(task);
     must(QueueUserAPC(routine, thread, argument));
     return thread;
 }

@@ -1,7 +1,7 @@
 /* Within 20 s: 8 passed, 0 failed.
  *
  * Who starts a thread of a pool is held up, before the thread is there or after: meanwhile one other thread does the pool's work, and the pool, which
- * may have one, starts no more of them again and again. */
+ * may have one, does not start further ones again and again. */
 #include "creating.h"
 #include "../settled.h"
 

@@ -161,13 +161,6 @@ static void *make_first_timer(void *none)
     return none;
 }
 
-static void *go_on_refusing(void *none)
-{
-    rest_ms(50);
-    raise_flag(&may_refuse);
-    return none;
-}
-
 /* The thread that keeps the time is refused to who makes a timer, and meanwhile another makes one, for which the thread comes: both are kept. */
 static void timer_beside_one_refused(void)
 {
@@ -175,9 +168,9 @@ static void timer_beside_one_refused(void)
     raise_flag(&refuses_slowly);
     pthread_t first = began(make_first_timer, NULL);
     await(&is_refusing);
-    pthread_t goes_on = began(go_on_refusing, NULL);
     ANSWERS(CreateTimerQueueTimer(&timer, QUEUE, note, &SECOND, 1, 0, WT_EXECUTEINTIMERTHREAD), TRUE, UNTOUCHED);
-    must(pthread_join(first, NULL) == 0 && pthread_join(goes_on, NULL) == 0);
+    raise_flag(&may_refuse);
+    must(pthread_join(first, NULL) == 0);
     IS(settled(&FIRST, 1), 1);
     IS(settled(&SECOND, 1), 1);
     ANSWERS(DeleteTimerQueueTimer(QUEUE, timer, INVALID_HANDLE_VALUE), TRUE, UNTOUCHED);

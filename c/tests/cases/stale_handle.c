@@ -13,7 +13,7 @@ static DWORD WINAPI wait_for(LPVOID event)
     return WaitForSingleObject(event, INFINITE);
 }
 
-/* How many events there can be at once, up to so many. */
+/* How many events there can be at once, up to this number. */
 static int opened(int most)
 {
     static HANDLE events[61000];

@@ -14,7 +14,7 @@ static void CALLBACK note(PVOID ticks, BOOLEAN timed_out)
     InterlockedIncrement(ticks);
 }
 
-/* Stops itself, and looks how often the timers came since it goes on: no more often than periods have passed since, but for what was missed and
+/* Stops itself, and looks how often the timers came since it goes on: at most as often as periods have passed since, but for what was missed and
  * what was under way. */
 static int stop_and_look(void)
 {

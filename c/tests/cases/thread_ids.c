@@ -1,7 +1,7 @@
 /* Within 20 s: 9 passed, 0 failed.
  *
  * GetCurrentThreadId answers 300 threads at once, that make no other call, with ids of which none is 0 and no two are the same. Asking takes
- * no place among those that the library has: after them threads still call, and are made. A thread of CreateThread has the id that this told. */
+ * no place among those that the library has: after them threads still call, and are made. A thread of CreateThread has the id that this answered. */
 #include "case.h"
 
 enum { THREADS = 300 };

@@ -1,7 +1,7 @@
 /* Within 30 s, unsanitized: 4 passed, 0 failed.
  *
- * The thread that takes SIGQUIT is in the midst of telling why threads wait. A child that is forked then may call, as if it told nothing; and a
- * process that ends then has told all. */
+ * The thread that takes SIGQUIT is in the midst of telling why threads wait. A child that is forked then may call, as if nothing were written; and a
+ * process that ends then has written all. */
 #include "case.h"
 
 #include <dlfcn.h>
@@ -77,7 +77,7 @@ static int end_meanwhile(void)
     return 0;
 }
 
-/* This program does that, and has told this to its end. */
+/* This program does that, and has written this to its end. */
 static int told_by(const char *program, const char *act, char *told, size_t room)
 {
     int ends[2];

@@ -1,4 +1,4 @@
-/* The last handle of an event is closed while a thread waits for it: nobody can set it any more. */
+/* The last handle of an event is closed while a thread waits for it: nobody can set it from then on. */
 #include "hang.h"
 
 static HANDLE ready, done;

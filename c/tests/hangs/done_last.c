@@ -7,7 +7,7 @@
 
 static HANDLE begun, never, go, items, lock, off, gone, last;
 
-/* Whether it is told so of some thread just now. */
+/* Whether it is said so of some thread just now. */
 static int is_told(const char *words)
 {
     char *text;

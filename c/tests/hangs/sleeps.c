@@ -1,4 +1,4 @@
-/* A sleep without end is told of only if asked: who calls it knows that. */
+/* A sleep without end is reported only if asked: who calls it knows that. */
 #include "hang.h"
 
 int main(void)

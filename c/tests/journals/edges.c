@@ -1,6 +1,6 @@
 /* What a run does at the edges of a journal, and of telling why. The first word says what:
  *   knot      two threads hold each other, and main ends the process
- *   many      so many calls that the journal grows several times
+ *   many      calls by which the journal grows several times
  *   numbers   objects, until all numbers were given
  *   closed    events, each of which is closed before the next is made
  *   events    the same, but more than there are numbers
@@ -30,7 +30,7 @@ static DWORD WINAPI take_both(LPVOID at)
     return 0;
 }
 
-/* The knot is told, or not, before the first of its threads sleeps. */
+/* The knot is reported, or not, before the first of its threads sleeps. */
 static void tie_knot(void)
 {
     HANDLE threads[2];

@@ -86,5 +86,11 @@ PROGRAMS = {
     "gperftools": Program("google-perftools", "src/windows/port.cc src/base/spinlock.cc src/base/spinlock_internal.cc", "-Isrc -Isrc/windows"),
     "googletest": Program("googletest", "googletest/src/gtest-port.cc", "-include names.h -Igoogletest -Igoogletest/include"),
     "glib": Program("glib2.0", "glib/gthread-win32.c glib/gthread.c", "-DGLIB_COMPILATION -I. -Iglib"),
+    "poco": Program(
+        "poco",
+        " ".join(f"Foundation/src/{it}.cpp" for it in "Thread ThreadPool Mutex Event Semaphore RWLock NamedEvent NamedMutex Condition Timer".split()),
+        "-U__linux__ -U__linux -Ulinux -U__unix__ -U__unix -Uunix -DPOCO_STATIC -DPOCO_NO_FPENVIRONMENT -DPOCO_INT64_IS_LONG -DPOCO_LONG_IS_64_BIT "
+        "-IFoundation/include",
+    ),
     "libgc": Program("libgc", "win32_threads.c", "-Iinclude -Iinclude/private -DGC_THREADS -DGC_BUILTIN_ATOMIC"),
 }

@@ -10,7 +10,7 @@ import tempfile
 # The package, and a call of a workshop and the source's folder: how many passed, why others failed, and why others were left out.
 Run = collections.namedtuple("Run", "package call")
 
-SECONDS_EACH = 60
+SECONDS_EACH = 300
 
 
 class Workshop:
@@ -293,6 +293,75 @@ WINPR_LEFT_OUT = {
 }
 WINPR_TESTS = " ".join(f"winpr/libwinpr/{it}/test/*.c" for it in "synch thread pool interlocked error sysinfo".split())
 
+# (Their frames of tests come by ours: apr.c and glib.c.)
+APR = "-DUSE_ATOMICS_GENERIC -Iinclude -Iinclude/arch/win32 -Iinclude/arch/unix -Itest -D__uid_t_defined -D__gid_t_defined -D__iovec_defined"
+APR_TESTS = "testatomic testcond testlock testsleep testthread"
+APR_FILES = (
+    "locks/win32/thread_*.c threadproc/win32/thread.c threadproc/win32/threadpriv.c atomic/win32/*.c memory/unix/apr_pools.c "
+    "tables/apr_hash.c tables/apr_tables.c strings/apr_snprintf.c strings/apr_strings.c strings/apr_cpystrn.c test/testutil.c "
+) + " ".join(f"test/{it}.c" for it in APR_TESTS.split())
+
+
+def apr(shop, source):
+    """Its tests of threads; each case of one that passes counts."""
+    flags, failed = shop.flags("apr", APR), {}
+    shop.make_files("apr", {"apr.h": "cat include/apr.hw"}, source)
+    objects = shop.objects("apr", source, APR_FILES, flags) + shop.objects("apr", source, [f"{shop.ported}/apr.c"], flags)
+    program = f"{shop.room}/apr.program"
+    why = shop.linked(program, objects, spare=True)
+    for test in APR_TESTS.split():
+        with open(f"{source}/test/{test}.c", encoding="utf-8") as text:
+            cases = re.findall(r"^ *abts_run_test\(suite, (\w+),", text.read(), re.M)
+        test_failed = why or shop.ran(program, "-v", test)
+        failed.update({test: test_failed} if test_failed else {f"{test}: {it} {number}": None for number, it in enumerate(cases)})
+    return *counted(failed), {}
+
+
+GLIB = "-DGLIB_COMPILATION -I. -Iglib"
+GLIB_PARTS = "thread thread-win32 atomic asyncqueue threadpool queue list slist slice mem timer rand array bitlock refcount"
+GLIB_FILES = " ".join(f"glib/g{it}.c" for it in GLIB_PARTS.split()) + " glib/deprecated/gthread-deprecated.c"
+GLIB_TESTED = "mutex rec-mutex rwlock cond once onceinit private thread thread-pool thread-deprecated atomic asyncqueue"
+GLIB_TESTS = " ".join(f"glib/tests/{it}.c" for it in f"{GLIB_TESTED} bitlock 1bit-mutex slice-concurrent".split())
+GLIB_LEFT_OUT = {"thread-pool-slow": "its main loop"}
+
+# (Windows is chosen by _WIN32, but only where the system is not Linux.)
+POCO = (
+    "-U__linux__ -U__linux -Ulinux -U__gnu_linux__ -U__unix__ -U__unix -Uunix -DPOCO_STATIC -DPOCO_NO_FPENVIRONMENT -DPOCO_INT64_IS_LONG "
+    "-DPOCO_LONG_IS_64_BIT -IFoundation/include -ICppUnit/include -IFoundation/testsuite/src"
+)
+POCO_THREADS = "Thread ThreadLocal ThreadPool ThreadTarget Mutex Event Semaphore RWLock NamedEvent NamedMutex Condition Timer ActiveDispatcher"
+POCO_REST = (
+    "Ascii AtomicCounter Bugcheck Clock Debugger Error ErrorHandler EventArgs Exception Format Notification NotificationCenter NotificationQueue "
+    "NumberFormatter NumberParser NumericString PriorityNotificationQueue Random RefCountedObject Runnable Stopwatch String SynchronizedObject Task "
+    "TaskManager TaskNotification TextConverter TextEncoding TextIterator TimedNotificationQueue Timespan Timestamp Unicode UnicodeConverter "
+    "UTF16Encoding UTF32Encoding UTF8Encoding UTF8String AbstractObserver MemoryStream Void"
+)
+POCO_TESTS = (
+    "ThreadingTestSuite ThreadTest SemaphoreTest RWLockTest ThreadPoolTest TimerTest ThreadLocalTest ActivityTest ActiveMethodTest "
+    "ActiveDispatcherTest ConditionTest NotificationQueueTest PriorityNotificationQueueTest TimedNotificationQueueTest TaskTest TaskManagerTest "
+    "NamedEventTest NamedMutexTest"
+)
+POCO_LEFT_OUT = {
+    "ThreadTest.testThreadStackSize": "headers without PTHREAD_STACK_MIN",
+    **dict.fromkeys(["RWLockTest.testLock", "RWLockTest.testTryLock"], "minutes, as it says"),
+}
+
+
+def poco(shop, source):
+    """The cases of its tests of threads, each in a process of its own."""
+    flags = shop.flags("poco", POCO)
+    files = [f"Foundation/src/{it}.cpp" for it in f"{POCO_THREADS} {POCO_REST}".split()]
+    files += [f"Foundation/testsuite/src/{it}.cpp" for it in POCO_TESTS.split()]
+    objects = shop.objects("poco", source, [*files, *shop.files_of(source, "CppUnit/src/*.cpp"), f"{shop.ported}/poco.cc"], flags)
+    program = f"{shop.room}/poco.program"
+    why = shop.linked(program, [*objects, "-Wl,--no-demangle"], spare=True)
+    if why:
+        return *counted({"all": why}), {}
+    written = subprocess.run([program], stdout=subprocess.PIPE, text=True, check=True).stdout
+    names = [".".join(it) for it in re.findall(r"I\d+(\w+?)E+\.(\w+)$", written, re.M)]
+    return *counted({it: shop.ran(program, str(number)) for number, it in enumerate(names) if it not in POCO_LEFT_OUT}), POCO_LEFT_OUT
+
+
 RUNS = {
     "zstd: packs by 4 threads": Run("zstd", program_of("zstd", ZSTD_FILES, "zstd.c", ZSTD)),
     "zstd: its test of pools": Run("zstd", program_of("zstd", ZSTD_FILES + " programs/timefn.c", "tests/poolTests.c", ZSTD)),
@@ -305,6 +374,9 @@ RUNS = {
         programs_of("winpr", WINPR_TESTS, WINPR, "winpr/libwinpr/interlocked/interlocked.c winpr/libwinpr/sysinfo/sysinfo.c", WINPR_MAIN, left_out=WINPR_LEFT_OUT, own="winpr.c"),
     ),
     "SDL2: its tests of threads": Run("libsdl2", sdl2),
+    "APR: its tests of threads": Run("apr", apr),
+    "GLib: its tests of threads": Run("glib2.0", programs_of("glib", GLIB_TESTS, GLIB, GLIB_FILES, left_out=GLIB_LEFT_OUT, own="glib.c")),
+    "Poco: its tests of threads": Run("poco", poco),
     "winpthreads: its tests": Run("mingw-w64", winpthreads),
     "Boost.Thread: its tests": Run("boost1.74", boost),
 }

@@ -1,4 +1,4 @@
-/* What winpthreads asks of the system that is not here: contexts, of which it is told that there are none; and its
+/* What winpthreads asks of the system that is not here: contexts, for which it is answered that there are none; and its
  * hook for a thread's end, which Windows calls. */
 #include <stdarg.h>
 #include <string.h>

@@ -183,6 +183,14 @@ static void act(void)
     all[below(sizeof all / sizeof *all)]();
 }
 
+/* A handler of signals calls, and does not wait. */
+static void act_in_handler(void)
+{
+    static void (*const all[])(void) = { set_event, set_event, reset_event, pulse_event, release_semaphore, set_any_timer, cancel_timer, queue_apc };
+    sums.calls++;
+    all[below(sizeof all / sizeof *all)]();
+}
+
 /* A thread that CreateThread did not make. */
 static void *act_as_foreign(void *acts)
 {

@@ -11,26 +11,41 @@
     X(WakesRevoker) X(PaysOne) X(WakesOne) X(FindsInside) X(Declines) X(FallsAsleepOn) X(FindsLeft) X(StirsOn) X(RestartsOn) X(PutsBack) \
     X(PassesBarrier) X(PassesBarrierOnce) X(FindsOutside) X(FindsOutsideOnce)
 #define LOCK_STEPS_ON_FAVOURED(X) X(Revokes) X(TriesFavoured) X(MarksFavoured)
+/* A handler of signals begins, and ends: each for where its thread was. */
+#define LOCK_STEPS_OF_HANDLERS(X) \
+    X(InterruptsAtStore) X(InterruptsAtReload) X(InterruptsAtWakeRevoker) X(InterruptsAtMark) X(InterruptsAtPay) X(InterruptsAtSleep) \
+    X(InterruptsAtWake) X(ResumesAtStore) X(ResumesAtReload) X(ResumesAtWakeRevoker) X(ResumesAtMark) X(ResumesAtPay) X(ResumesAtSleep) \
+    X(ResumesAtWake)
+
+/* Those of the word on which a thread sleeps until its wait is granted. Some have names that steps of the lock have, too. */
+#define WORD_STEPS(X) WORD_STEPS_OF_ITS_OWN(X) X(Enters) X(FallsAsleep) X(Stirs) X(Restarts)
+#define WORD_STEPS_OF_ITS_OWN(X) \
+    X(Returns) X(Begins) X(TurnsToSleep) X(Marks) X(FindsItLate) X(Reads) X(LooksAtTime) X(Rearms)
+#define WORD_STEPS_ON_OTHERS(X) X(Grants) X(Calls) X(Wakes)
 
 #define STEP_NAME(name) name,
 enum step {
     NO_STEP,
     LOCK_STEPS(STEP_NAME)
+    LOCK_STEPS_OF_HANDLERS(STEP_NAME)
+    WORD_STEPS_OF_ITS_OWN(STEP_NAME)
     LAST_ALONE,
+    WORD_STEPS_ON_OTHERS(STEP_NAME)
     LOCK_STEPS_ON_OTHERS(STEP_NAME)
     LAST_ON_OTHERS,
     LOCK_STEPS_ON_FAVOURED(STEP_NAME)
     STEPS
 };
 
-/* The protocols, each with threads of its own. */
-enum protocol { lock_protocol };
+/* The protocols. Of each a strand is a thread. */
+enum protocol { lock_protocol, word_protocol, PROTOCOLS };
 
 #define STEP(protocol, word, ...) name_step(protocol##_protocol, (word), (uint32_t[]){ __VA_ARGS__, 0 })
-#define STEP_OF(seat, protocol, word, ...) (run.runs->lock_thread = (seat)->number, STEP(protocol, word, __VA_ARGS__))
-#define STEP_NEXT(seat) (run.runs->next_lock_thread = (seat)->number + 1)
+#define STEP_OF(seat, protocol, word, ...) (run.runs->tells.is_thread[protocol##_protocol] = (seat)->number, STEP(protocol, word, __VA_ARGS__))
+#define STEP_NEXT(seat) (run.runs->tells.next_lock_thread = (seat)->number + 1)
+#define STEP_AS(protocol, name, other) (run.runs->tells.returns_as = (other))
 #define STEP_BEYOND(protocol, ...) name_barrier((uint32_t[]){ __VA_ARGS__ })
-#define TO_SLEEP(protocol, word, ...) name_sleep((word), (uint32_t[]){ __VA_ARGS__ })
-#define TO_WAKE(protocol, word, ...) name_wake((word), (uint32_t[]){ __VA_ARGS__ })
+#define TO_SLEEP(protocol, word, ...) name_sleep(protocol##_protocol, (word), (uint32_t[]){ __VA_ARGS__ })
+#define TO_WAKE(protocol, word, ...) name_wake(protocol##_protocol, (word), (uint32_t[]){ __VA_ARGS__, 0 })
 
 #endif

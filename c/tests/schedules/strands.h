@@ -17,6 +17,7 @@
 #define own OWN
 #include "step_names.h"
 #include "../../ntwin/inside.h"
+#include "../../schedule/chance.h"
 
 #include <stdarg.h>
 #include <stdio.h>
@@ -52,24 +53,33 @@ struct strand {
     uint32_t late_value;
     int priority;
     const void *leaving;    /* the value of its key */
-    struct made_step {      /* its last steps, as many as there are (trace.h): */
-        const volatile void *word;
-        size_t place;
-    } made[STEPS_KNOWN];
-    uint32_t steps_made;
-    uint32_t lock_thread, next_lock_thread; /* which thread of the lock's protocol it is, and is to be (plus one) */
-    bool has_missed;        /* its last step found that the lock no longer favours it */
-    bool has_barred;        /* it has had the others pass a barrier, */
-    bool is_refused_barrier; /* or was refused that, and rests until their stores have arrived */
+    bool is_refused_barrier; /* it was refused a barrier, and rests until others' stores have arrived */
     bool is_told_asleep;    /* it sleeps, as the trace has it */
-    struct {
-        const volatile void *word;
-        uint32_t names[5];
-    } to_sleep;
-    struct {
-        const volatile void *word;
-        uint32_t names[2];
-    } to_wake;
+    bool is_in_handler;     /* a handler of signals has interrupted it, */
+    bool is_in_call;        /* and in a call, as the words' protocol has it */
+    struct telling {        /* what it is to tell (trace.h) */
+        struct made_step {  /* its last steps, as many as there are: */
+            const volatile void *word;
+            size_t place;
+        } made[STEPS_KNOWN];
+        uint32_t steps_made;
+        uint32_t is_thread[PROTOCOLS]; /* which thread of each protocol it is, */
+        uint32_t next_lock_thread;     /* and of the lock's is to be (plus one) */
+        uint32_t returns_as;           /* what its next return is; 0 where that is one */
+        bool has_missed;               /* its last step found that the lock no longer favours it */
+        bool has_barred;               /* it has had the others pass a barrier */
+        enum { OUT_OF_CALL, IN_CALL, IN_WAIT } stands; /* where it is, as the words' protocol has it */
+        struct {
+            enum protocol protocol;
+            const volatile void *word;
+            uint32_t names[5];
+        } to_sleep;
+        struct {
+            enum protocol protocol;
+            const volatile void *word;
+            uint32_t names[3];
+        } to_wake;
+    } tells;
     struct own kept;
 };
 
@@ -89,18 +99,14 @@ static struct {
     int changes;            /* of priorities */
     void (*destructor)(void *);
     void (*look)(void);     /* what is looked at whenever all strands sleep */
+    void (*handle)(void);   /* what a handler of signals does */
 } run;
 
 /* ---- Chance. */
 
 static uint64_t any_number(void)
 {
-    uint64_t a = run.state[0];
-    const uint64_t b = run.state[1];
-    run.state[0] = b;
-    a ^= a << 23;
-    run.state[1] = a ^ b ^ (a >> 17) ^ (b >> 26);
-    return run.state[1] + b;
+    return next_of_chance(run.state);
 }
 
 /* A number below this one. */
@@ -355,10 +361,7 @@ static void run_all(void *(*first)(void *), uint64_t seed)
     run.now = NANOSECONDS;
     run.seed = seed;
     run.habit = (enum habit)(seed % HABITS);
-    run.state[0] = seed * UINT64_C(0x9E3779B97F4A7C15) + 1;
-    run.state[1] = seed ^ UINT64_C(0xD1B54A32D192ED03);
-    for (int i = 0; i < 10; i++)
-        any_number();
+    begin_chance(run.state, seed);
     add_strand(first, NULL);
     run.runs = NULL;
     if (_setjmp(run.end) == 0)

@@ -18,7 +18,7 @@ static long pass_all_barriers(void)
         return -1;
     }
     note_step(&process.has_barriers);
-    me->has_barred = true;
+    me->tells.has_barred = true;
     point();
     return 0;
 }
@@ -61,6 +61,7 @@ static long use_system(long number, void *word, int operation, uint32_t value, c
         return pass_all_barriers();
     end_store(me);
     if (operation == FUTEX_WAKE_PRIVATE) {
+        be_interrupted_before_wake(word);
         for (int i = 0; i < run.count; i++)
             if (run.strands[i].state == SLEEPS && run.strands[i].word == word && !run.strands[i].is_woken)
                 sleepers[count++] = &run.strands[i];
@@ -70,9 +71,16 @@ static long use_system(long number, void *word, int operation, uint32_t value, c
         tell_wake(word, woken);
         return woken != NULL;
     }
-    return sleep_on_word(word, value,
-                         until == NULL || until->tv_sec > NANOSECONDS ? NEVER
-                                                                      : (uint64_t)until->tv_sec * NANOSECONDS + (uint64_t)until->tv_nsec);
+    const bool is_lock = word == &waiting.lock && is_to_sleep_on_lock();
+    if (is_lock)
+        be_interrupted(InterruptsAtSleep, ResumesAtSleep);
+    const long slept =
+        sleep_on_word(word, value,
+                      until == NULL || until->tv_sec > NANOSECONDS ? NEVER
+                                                                   : (uint64_t)until->tv_sec * NANOSECONDS + (uint64_t)until->tv_nsec);
+    if (is_lock)
+        be_interrupted(InterruptsAtMark, ResumesAtMark);
+    return slept;
 }
 
 static int read_clock(struct timespec *at)

@@ -7,28 +7,35 @@
 
 enum {
     SEATS_TOLD = 64,
-    THREADS_TOLD = SEATS_TOLD + MOST_STRANDS,
-    RUNS_WITH_ALL = 3000 /* so many make each step */
+    THREADS_TOLD = SEATS_TOLD + MOST_STRANDS
 };
 
-static const char *const step_names[STEPS] = {
-#define STEP_TEXT(name) [name] = #name,
-    LOCK_STEPS(STEP_TEXT) LOCK_STEPS_ON_OTHERS(STEP_TEXT) LOCK_STEPS_ON_FAVOURED(STEP_TEXT)
+static const int threads_told[PROTOCOLS] = { [lock_protocol] = THREADS_TOLD, [word_protocol] = SEATS_TOLD };
+static const char *const protocol_names[PROTOCOLS] = { [lock_protocol] = "lock", [word_protocol] = "word" };
+
+/* Each step of each protocol, as the trace names it. */
+#define LOCK_STEP_TEXT(name) [name] = "lock " #name,
+#define WORD_STEP_TEXT(name) [name] = "word " #name,
+static const char *const step_names[PROTOCOLS][STEPS] = {
+    [lock_protocol] = { LOCK_STEPS(LOCK_STEP_TEXT) LOCK_STEPS_OF_HANDLERS(LOCK_STEP_TEXT) LOCK_STEPS_ON_OTHERS(LOCK_STEP_TEXT)
+                        LOCK_STEPS_ON_FAVOURED(LOCK_STEP_TEXT) },
+    [word_protocol] = { WORD_STEPS(WORD_STEP_TEXT) WORD_STEPS_ON_OTHERS(WORD_STEP_TEXT) },
 };
 
 /* The trace, if one is asked for. */
 static struct {
     FILE *file;
     struct told_step {
+        enum protocol protocol;
         enum step step;
         uint32_t thread, other;
     } *steps;
     size_t count, room;
-    unsigned long long counts[STEPS];
+    unsigned long long counts[PROTOCOLS][STEPS];
 } trace;
 
 /* A step more, in its place. */
-static size_t put_step(enum step step, uint32_t thread, uint32_t other)
+static size_t put_step(enum protocol protocol, enum step step, uint32_t thread, uint32_t other)
 {
     if (trace.count == trace.room) {
         trace.room = trace.room * 2 + 1024;
@@ -36,8 +43,14 @@ static size_t put_step(enum step step, uint32_t thread, uint32_t other)
         if (trace.steps == NULL)
             abort();
     }
-    trace.steps[trace.count] = (struct told_step){ step, thread, other };
+    trace.steps[trace.count] = (struct told_step){ protocol, step, thread, other };
     return trace.count++;
+}
+
+/* A step that has no name yet, which it may get. */
+static size_t put_nameless(void)
+{
+    return put_step(lock_protocol, NO_STEP, 0, 0);
 }
 
 /* The strand that runs makes a step on this word. */
@@ -46,15 +59,15 @@ static void note_step(const volatile void *word)
     struct strand *me = run.runs;
     if (trace.file == NULL || me == NULL)
         return;
-    me->made[me->steps_made++ % STEPS_KNOWN] = (struct made_step){ word, put_step(NO_STEP, 0, 0) };
+    me->tells.made[me->tells.steps_made++ % STEPS_KNOWN] = (struct made_step){ word, put_nameless() };
 }
 
 /* The place of the last step of the strand that runs on this word. */
 static size_t last_step_on(const volatile void *word)
 {
     struct strand *me = run.runs;
-    for (uint32_t i = 1; i <= STEPS_KNOWN && i <= me->steps_made; i++) {
-        struct made_step *made = &me->made[(me->steps_made - i) % STEPS_KNOWN];
+    for (uint32_t i = 1; i <= STEPS_KNOWN && i <= me->tells.steps_made; i++) {
+        struct made_step *made = &me->tells.made[(me->tells.steps_made - i) % STEPS_KNOWN];
         if (made->word == word) {
             made->word = NULL;
             return made->place;
@@ -74,26 +87,86 @@ static void choose_lock_thread(enum step step)
     struct strand *me = run.runs;
     const uint32_t alone = SEATS_TOLD + (uint32_t)(me - run.strands);
     if (step == Asks)
-        me->lock_thread = me->next_lock_thread != 0 ? me->next_lock_thread - 1 : alone;
+        me->tells.is_thread[lock_protocol] = me->tells.next_lock_thread != 0 ? me->tells.next_lock_thread - 1 : alone;
     if (step == TriesFree || step == TriesFavoured)
-        me->lock_thread = alone;
+        me->tells.is_thread[lock_protocol] = alone;
     if (step == Asks)
-        me->next_lock_thread = 0;
+        me->tells.next_lock_thread = 0;
+}
+
+/* Which step it is: the same step of the code may be one of two. */
+static enum step choose_step(enum protocol protocol, enum step step)
+{
+    struct strand *me = run.runs;
+    if (protocol == lock_protocol) {
+        choose_lock_thread(step);
+        if (step == StepsOut && me->tells.has_missed)
+            step = StepsBack;
+        me->tells.has_missed = step == MissesFavour;
+        return step;
+    }
+    if (me->is_in_call && (step == Enters || step == Returns)) /* (A handler's call is a part of the one that it has interrupted.) */
+        return NO_STEP;
+    if (step == Returns && me->tells.returns_as != 0) {
+        step = (enum step)me->tells.returns_as;
+        me->tells.returns_as = 0;
+    }
+    if (step == Enters || step == LooksAtTime)
+        me->tells.stands = IN_CALL;
+    if (step == Returns || step == TurnsToSleep)
+        me->tells.stands = step == Returns ? OUT_OF_CALL : IN_WAIT;
+    return step;
+}
+
+/* ---- Handlers of signals. */
+
+enum { ONE_HANDLER_IN = 24 };
+
+/* A handler of signals may interrupt the strand that runs, where it may call: its thread of the lock's protocol is that of its seat, and at a place
+ * of which these steps tell. (It has no wait, and no handler interrupts it.) */
+static void be_interrupted(enum step begins, enum step ends)
+{
+    struct strand *me = run.runs;
+    const struct seat *seat = own.seat;
+    if (me->is_in_handler || seat == NULL || me->tells.is_thread[lock_protocol] != seat->number || me->tells.stands == IN_WAIT
+        || me->late_word == (const void *)&seat->inside || *(const volatile uint32_t *)&seat->inside != 0
+        || *(const volatile bool *)&seat->takes || !one_in(ONE_HANDLER_IN))
+        return;
+    const struct telling kept = me->tells;
+    me->is_in_handler = true;
+    me->is_in_call = kept.stands == IN_CALL;
+    if (trace.file != NULL)
+        put_step(lock_protocol, begins, seat->number, 0);
+    run.handle();
+    if (trace.file != NULL)
+        put_step(lock_protocol, ends, seat->number, 0);
+    me->is_in_handler = me->is_in_call = false;
+    me->tells = kept;
+}
+
+/* The same after this step of the lock. */
+static void be_interrupted_after(enum step step)
+{
+    if (step == SeesFavour)
+        be_interrupted(InterruptsAtStore, ResumesAtStore);
+    else if (step == StepsOut || step == StepsBack)
+        be_interrupted(InterruptsAtReload, ResumesAtReload);
+    else if (step == FindsRevoked)
+        be_interrupted(InterruptsAtWakeRevoker, ResumesAtWakeRevoker);
 }
 
 static void name_step(enum protocol protocol, const volatile void *word, const uint32_t *names)
 {
     struct strand *me = run.runs;
-    enum step step = (enum step)names[0];
-    (void)protocol;
-    if (trace.file == NULL || me == NULL)
+    if (me == NULL)
         return;
-    choose_lock_thread(step);
-    if (step == StepsOut && me->has_missed)
-        step = StepsBack;
-    me->has_missed = step == MissesFavour;
-    const size_t place = word == NULL ? put_step(NO_STEP, 0, 0) : last_step_on(word);
-    trace.steps[place] = (struct told_step){ step, me->lock_thread, other_of(step, names[1]) };
+    const enum step step = choose_step(protocol, (enum step)names[0]);
+    if (trace.file != NULL && step != NO_STEP) {
+        const size_t place = word == NULL ? put_nameless() : last_step_on(word);
+        trace.steps[place] = (struct told_step){ protocol, step, me->tells.is_thread[protocol], other_of(step, names[1]) };
+    }
+    if (protocol == lock_protocol)
+        be_interrupted_after(step);
 }
 
 /* A plain store arrives. */
@@ -101,7 +174,7 @@ static void note_arrival(const volatile void *word, uint32_t value)
 {
     const uintptr_t at = (uintptr_t)word - (uintptr_t)&waiting.seats[0].inside;
     if (trace.file != NULL && at % sizeof waiting.seats[0] == 0 && at / sizeof waiting.seats[0] < SEATS_TOLD)
-        put_step(value != 0 ? SetArrives : ClearArrives, (uint32_t)(at / sizeof waiting.seats[0]), 0);
+        put_step(lock_protocol, value != 0 ? SetArrives : ClearArrives, (uint32_t)(at / sizeof waiting.seats[0]), 0);
 }
 
 /* Another thread has passed a barrier: at its place, or now where none was needed or the system refused it. */
@@ -111,19 +184,21 @@ static void name_barrier(const uint32_t *names)
     if (me->is_refused_barrier) /* (A tenth of a second has passed.) */
         end_all_stores();
     me->is_refused_barrier = false;
-    if (trace.file == NULL || me->lock_thread == names[1])
+    const uint32_t thread = me->tells.is_thread[lock_protocol];
+    if (trace.file == NULL || thread == names[1])
         return;
-    const size_t place = me->has_barred ? last_step_on(&process.has_barriers) : put_step(NO_STEP, 0, 0);
-    me->has_barred = false;
-    trace.steps[place] = (struct told_step){ (enum step)names[0], me->lock_thread, names[1] };
+    const size_t place = me->tells.has_barred ? last_step_on(&process.has_barriers) : put_nameless();
+    me->tells.has_barred = false;
+    trace.steps[place] = (struct told_step){ lock_protocol, (enum step)names[0], thread, names[1] };
 }
 
 /* ---- What becomes of a sleep, and of a wake-up. */
 
-static void name_sleep(const volatile void *word, const uint32_t *names)
+static void name_sleep(enum protocol protocol, const volatile void *word, const uint32_t *names)
 {
-    run.runs->to_sleep.word = word;
-    memcpy(run.runs->to_sleep.names, names, sizeof run.runs->to_sleep.names);
+    run.runs->tells.to_sleep.protocol = protocol;
+    run.runs->tells.to_sleep.word = word;
+    memcpy(run.runs->tells.to_sleep.names, names, sizeof run.runs->tells.to_sleep.names);
 }
 
 enum sleep_outcome { SLEPT, DID_NOT_SLEEP, WOKE_BY_ITSELF, SLEEPS_AGAIN };
@@ -131,77 +206,120 @@ enum sleep_outcome { SLEPT, DID_NOT_SLEEP, WOKE_BY_ITSELF, SLEEPS_AGAIN };
 static void tell_sleep(const volatile void *word, enum sleep_outcome outcome)
 {
     struct strand *me = run.runs;
-    if (trace.file == NULL || me->to_sleep.word != word)
+    if (trace.file == NULL || me->tells.to_sleep.word != word)
         return;
-    put_step((enum step)me->to_sleep.names[outcome], me->lock_thread, me->to_sleep.names[4]);
+    const enum protocol protocol = me->tells.to_sleep.protocol;
+    put_step(protocol, (enum step)me->tells.to_sleep.names[outcome], me->tells.is_thread[protocol], me->tells.to_sleep.names[4]);
     me->is_told_asleep = outcome == SLEPT;
     if (outcome == DID_NOT_SLEEP || outcome == WOKE_BY_ITSELF)
-        me->to_sleep.word = NULL;
+        me->tells.to_sleep.word = NULL;
 }
 
-/* The sleep of the strand that runs has ended: who woke it has told so, or nobody has. */
+/* The sleep of the strand that runs has ended: who woke it has said so, or nobody has. */
 static void tell_end_of_sleep(const volatile void *word)
 {
     if (run.runs->is_told_asleep)
         tell_sleep(word, WOKE_BY_ITSELF);
-    run.runs->to_sleep.word = NULL;
+    run.runs->tells.to_sleep.word = NULL;
 }
 
-static void name_wake(const volatile void *word, const uint32_t *names)
+/* The strand is to wake, or to sleep, and may be interrupted before. */
+static void be_interrupted_before_wake(const volatile void *word)
 {
     struct strand *me = run.runs;
-    me->to_wake.word = word;
-    memcpy(me->to_wake.names, names, sizeof me->to_wake.names);
+    if (me == NULL || word == NULL || me->tells.to_wake.word != word || me->tells.to_wake.protocol != lock_protocol)
+        return;
+    if (me->tells.to_wake.names[0] == PaysOne)
+        be_interrupted(InterruptsAtPay, ResumesAtPay);
+    else if (me->tells.to_wake.names[0] == WakesOne)
+        be_interrupted(InterruptsAtWake, ResumesAtWake);
+}
+
+static bool is_to_sleep_on_lock(void)
+{
+    return run.runs != NULL && run.runs->tells.to_sleep.word == &waiting.lock && run.runs->tells.to_sleep.protocol == lock_protocol;
+}
+
+static void name_wake(enum protocol protocol, const volatile void *word, const uint32_t *names)
+{
+    struct strand *me = run.runs;
+    me->tells.to_wake.protocol = protocol;
+    me->tells.to_wake.word = word;
+    memcpy(me->tells.to_wake.names, names, sizeof me->tells.to_wake.names);
     if (word == NULL && trace.file != NULL)
-        put_step((enum step)names[1], me->lock_thread, 0);
+        put_step(protocol, (enum step)names[1], me->tells.is_thread[protocol], 0);
 }
 
 /* A wake-up on this word has woken that strand, or none. (Who pays and is not of its seat here wakes somebody who seems to wake by itself.) */
 static void tell_wake(const volatile void *word, struct strand *woken)
 {
     struct strand *me = run.runs;
-    if (trace.file == NULL || me->to_wake.word != word)
+    if (trace.file == NULL || me->tells.to_wake.word != word)
         return;
-    me->to_wake.word = NULL;
-    const bool tells = woken != NULL && woken->is_told_asleep && (me->to_wake.names[0] != PaysOne || me->lock_thread < SEATS_TOLD);
-    put_step((enum step)me->to_wake.names[tells ? 0 : 1], me->lock_thread, tells ? woken->lock_thread : 0);
+    me->tells.to_wake.word = NULL;
+    const enum protocol protocol = me->tells.to_wake.protocol;
+    const uint32_t thread = me->tells.is_thread[protocol];
+    const bool tells = woken != NULL && woken->is_told_asleep && (me->tells.to_wake.names[0] != PaysOne || thread < SEATS_TOLD);
+    const uint32_t other = protocol == word_protocol ? me->tells.to_wake.names[2] : tells ? woken->tells.is_thread[protocol] : 0;
+    put_step(protocol, (enum step)me->tells.to_wake.names[tells ? 0 : 1], thread, other);
     if (tells)
         woken->is_told_asleep = false;
 }
 
 /* ---- The trace is written once a run has ended, and how often each step was made once all have. */
 
+static void write_number(uint32_t number)
+{
+    char digits[10];
+    size_t at = sizeof digits;
+    do
+        digits[--at] = (char)('0' + number % 10);
+    while ((number /= 10) != 0);
+    putc_unlocked(' ', trace.file);
+    while (at < sizeof digits)
+        putc_unlocked(digits[at++], trace.file);
+}
+
+/* (Most of a run's time goes into this, and so no format is read.) */
+static void write_step(const struct told_step *told)
+{
+    for (const char *name = step_names[told->protocol][told->step]; *name != 0; name++)
+        putc_unlocked(*name, trace.file);
+    write_number(told->thread);
+    if (told->step > LAST_ALONE)
+        write_number(told->other);
+    putc_unlocked('\n', trace.file);
+}
+
+static void write_steps(enum protocol protocol)
+{
+    fprintf(trace.file, "opening %s %d\n", protocol_names[protocol], threads_told[protocol]);
+    for (size_t i = 0; i < trace.count; i++)
+        if (trace.steps[i].step != NO_STEP && trace.steps[i].protocol == protocol) {
+            trace.counts[protocol][trace.steps[i].step]++;
+            write_step(&trace.steps[i]);
+        }
+}
+
 static void write_trace(void)
 {
     if (trace.file == NULL)
         return;
-    fprintf(trace.file, "lock opening %d\n", THREADS_TOLD);
-    for (size_t i = 0; i < trace.count; i++) {
-        const struct told_step *told = &trace.steps[i];
-        if (told->step == NO_STEP)
-            continue;
-        trace.counts[told->step]++;
-        if (told->step > LAST_ALONE)
-            fprintf(trace.file, "lock %s %u %u\n", step_names[told->step], told->thread, told->other);
-        else
-            fprintf(trace.file, "lock %s %u\n", step_names[told->step], told->thread);
-    }
+    for (int protocol = 0; protocol < PROTOCOLS; protocol++)
+        write_steps((enum protocol)protocol);
     trace.count = 0;
     fflush(trace.file);
 }
 
-/* Ends the test where a step was never made in so many runs. (Only where a handler of signals interrupts its thread does that wake who sleeps on its
- * own `inside`, and these programs have none.) */
-static void tell_counts(uint64_t runs)
+/* How often each step was made. */
+static void tell_counts(void)
 {
     if (trace.file == NULL)
         return;
-    for (int step = 0; step < STEPS; step++)
-        if (step_names[step] != NULL) {
-            printf("%s %llu, ", step_names[step], trace.counts[step]);
-            if (trace.counts[step] == 0 && step != PaysOne && runs >= RUNS_WITH_ALL)
-                broken("no run has made the step %s", step_names[step]);
-        }
+    for (int protocol = 0; protocol < PROTOCOLS; protocol++)
+        for (int step = 0; step < STEPS; step++)
+            if (step_names[protocol][step] != NULL)
+                printf("%s %llu, ", step_names[protocol][step], trace.counts[protocol][step]);
     printf("as the trace has them\n");
 }
 
