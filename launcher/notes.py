@@ -1,8 +1,9 @@
 """What is said of a transcript on a terminal once it is whole: what its refusals are called, and what tells more of a wait that never ended."""
-import contextlib
 import os
 import re
 import threading
+
+from running import write_all
 
 TOP = os.path.dirname(os.path.dirname(os.path.realpath(__file__)))
 
@@ -50,20 +51,13 @@ class Notes:
     def hand_on(self, source):
         with source:
             while part := os.read(source.fileno(), 1 << 16):
-                if not self.write(part):
+                if not write_all(part):
                     # The program's next write fails, as this one did.
                     self.failed = True
                     return
                 *lines, self.last = (self.last + part).split(b"\n")
                 for line in lines:
                     self.note(line)
-
-    @staticmethod
-    def write(part):
-        with contextlib.suppress(OSError):
-            while part:
-                part = part[os.write(1, part) :]
-        return not part
 
     def note(self, line):
         refused = REFUSED.fullmatch(line)

@@ -5,13 +5,39 @@ import os
 import signal
 import stat
 import subprocess
+import sys
 
 import building
-from terminal import Progress, say
+from terminal import WHO, Progress, say
+
+PROVED_OR_INPUT = "FILE may be - for standard input; --proved before all other words proves and builds the program first"
+
+
+def end_as(main):
+    """Ends the launcher with the exit status that `main` answers to its words."""
+    try:
+        signal.signal(signal.SIGTERM, lambda *_: sys.exit(128 + signal.SIGTERM))
+        sys.exit(main(sys.argv[1:]))
+    except building.NotBuilt as why:
+        say(f"{WHO}: {why}")
+        sys.exit(125)
+    except KeyboardInterrupt:
+        sys.exit(128 + signal.SIGINT)
 
 
 def is_operand(word):
     return word == "-" or not word.startswith("-")
+
+
+def named_file(built, words, at, not_read):
+    """The path of the FILE at this place of the words, where `-` is standard input, and how it is called. None where it can't be opened, as is said."""
+    if words[at] == "-":
+        words[at] = "/dev/stdin"
+    name = "<stdin>" if words[at] == "/dev/stdin" else words[at]
+    refused = why_not_open(words[at], f"{built.name}: cannot open", not_read)
+    if refused:
+        say(refused[0], f"{name}: {refused[1]}")
+    return None if refused else (words[at], name)
 
 
 def why_not_open(path, cannot_open, not_read):

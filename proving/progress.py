@@ -4,7 +4,7 @@ import sys
 import threading
 import time
 
-# How often the line on a terminal is written anew, in seconds.
+# How often the line on a terminal is written again, in seconds.
 PAUSE = 2
 
 
@@ -48,7 +48,7 @@ class Progress:
 
     @contextlib.contextmanager
     def on_terminal(self):
-        """Writes the line anew while the block runs, where the output is a terminal."""
+        """Writes the line again and again while the block runs, where the output is a terminal."""
         ended = threading.Event()
 
         def write():

@@ -60,7 +60,7 @@ def no_conflict_markers(top, progress):
 
 
 def laid_out_otherwise(crate, room):
-    """The files of the crate that `rt fmt` lays out otherwise. (It names each that it lays out anew, so this works on a copy.)"""
+    """The files of the crate that `rt fmt` lays out otherwise. (It names each that it lays out, so this works on a copy.)"""
     said = run([kit.find_rt(), "fmt"], fill_room(f"{room}/{crate.name}", crate, below=False))
     names = re.findall(r"^rt: formatted (.*)$", said.text, re.M) or ([f"rt fmt: status {said.status}"] if said.status else [])
     return [f"crates/{crate.name}/{it}" for it in names]
@@ -163,7 +163,8 @@ def example(top, words, wanted):
     ran = subprocess.run(words, cwd=top, check=False, **how)
     told = [] if ran.returncode in STATUSES[words[1]] else [f"{' '.join(words)}: exit status {ran.returncode}", *ran.stderr.splitlines()]
     if ran.stdout != wanted:
-        told += failures.transcript_failure(f"{top}/{words[2]}", wanted, ran.stdout, f"what {' '.join(words)} wrote")
+        script = text_of(f"{top}/{words[2]}").encode()
+        told += failures.transcript_failure(words[2], script, wanted, ran.stdout, f"what {' '.join(words)} wrote")
     return told
 
 
@@ -180,18 +181,14 @@ def drawn(top, script, picture):
 def examples(top, progress):
     """What the launchers write of each example is as it stands. Not of each stands why its threads wait, a timeline, or orders. A picture of the docs
     is what `ntlook timeline` draws."""
-    passed, failed, runs = 0, [], runs_of(top)
+    runs = [(words[2], functools.partial(example, top, words, wanted)) for words, wanted in runs_of(top)]
+    runs += [(picture, functools.partial(drawn, top, script, picture)) for script, picture in PICTURES]
     with ThreadPoolExecutor(processors()) as pool:
-        for (words, _), told in zip(runs, pool.map(lambda it: example(top, *it), runs)):
-            for it in told:
-                progress.tell(it.replace(f"{top}/", ""))
-            passed, failed = passed + (not told), failed + [words[2]] * bool(told)
-    for script, picture in PICTURES:
-        told = drawn(top, script, picture)
-        for it in told:
-            progress.tell(it)
-        passed, failed = passed + (not told), failed + [picture] * bool(told)
-    return Step(passed, failed)
+        told = list(pool.map(lambda it: it[1](), runs))
+    for it in sum(told, []):
+        progress.tell(it.replace(f"{top}/", ""))
+    failed = [name for (name, _), lines in zip(runs, told) if lines]
+    return Step(len(runs) - len(failed), failed)
 
 
 def command(top, *words):
@@ -225,7 +222,7 @@ def before_proofs(top):
     return [
         ("no conflict markers", functools.partial(no_conflict_markers, top), False),
         ("each file is laid out", functools.partial(each_file_is_laid_out, top), False),
-        ("docs/MODEL.md names each definition", command(top, "docs/check_model"), False),
+        ("docs/MODEL.md has each file of definitions", command(top, "docs/check_model"), False),
         ("the names of the docs", command(top, "docs/check_names"), False),
         ("each mutant applies", functools.partial(edits_apply, top), False),
         ("each public function has a mutant", command(top, "mutants/run", "--reached"), False),
@@ -245,7 +242,6 @@ def unproved(top):
 def proved(tree, work, is_all):
     """The steps with proofs: over what earlier runs kept, or from nothing with each mutant, case and planted fault of C. Those of tests that take long are
     not run again over the same."""
-    scripts = [os.path.relpath(it, tree) for it in sorted(glob.glob(f"{tree}/examples/*.nts") + glob.glob(f"{tree}/tests/scripts/*/*.nts"))]
     kept = Kept(lambda _: None, takes=not is_all)
     # (of c/ a preload may have the kit's compiler)
     no_growth = ["docs", "bench", *(os.path.relpath(it, tree) for it in glob.glob(f"{tree}/c/*") if not it.endswith("/kit"))]
@@ -257,7 +253,7 @@ def proved(tree, work, is_all):
         ("object numbers and handles", command(tree, "tests/types"), False),
         ("what closed objects leave", command(tree, "tests/memory"), False),
         ("the threads of a plan", command(tree, "tests/threads"), False),
-        ("the scripts, each growth refused", again(["ntrun", "ntlook"], no_growth, "tests/growths/scripts", *scripts), False),
+        ("the scripts, each growth refused", again(["ntrun", "ntlook"], no_growth, "tests/growths/scripts"), False),
         ("the programs of docs/EMBEDDING.md, each growth refused", command(tree, "tests/growths/example"), False),
         ("the examples", functools.partial(examples, tree), False),
         ("the launcher, and the worked scripts", command(tree, "tests/launcher"), False),

@@ -8,7 +8,7 @@ import sys
 
 import building
 import kit
-from compare_scripts import Draw, Tally, told
+from compare_scripts import Draw, Tally, shortened, told
 from machine import NO_HANDLE, RIGHTS, Gone, Machine, Thread, kind_of
 from orders import Names
 
@@ -109,7 +109,7 @@ class Life(Machine):
         return f"thread {thread} handle {self.open((thread, RIGHTS['thread']))}"
 
     def set_aside(self, thread):
-        """The object of an ended thread gets the number of one that is gone, or the next, of which there are no more than of handles."""
+        """The object of an ended thread gets the number of one that is gone, or the next, of which there are at most as many as handles."""
         is_ended = thread < self.threads and self.objects[thread] == Thread(True)
         if not is_ended or any(thread in it.objects for it in self.waits.values()):
             return f"error {NO_HANDLE}"
@@ -249,19 +249,8 @@ def compare(program, name):
             lines.append(turns.turn())
             differs = beside.take(lines[-1])
             if differs:
-                return dict(beside.tally), [f"life {name}, after {len(lines)} turns", *shorter(program, lines), *differs]
+                fewer = shortened(lines, lambda rest: replay(program, rest))
+                return dict(beside.tally), [f"life {name}, after {len(lines)} turns", *fewer, *differs]
     finally:
         beside.played.ends()
     return dict(beside.tally), []
-
-
-def shorter(program, lines):
-    """The lines without those that can be left out."""
-    size = len(lines) // 2
-    while size:
-        at = 0
-        while at < len(lines):
-            rest = lines[:at] + lines[at + size :]
-            lines, at = (rest, at) if replay(program, rest) else (lines, at + size)
-        size //= 2
-    return lines

@@ -15,6 +15,9 @@ DUES = [-20000, -10000, -5000, -1, 0, 0] * 4 + [-(1 << 63), (1 << 63) - 1]
 PERIODS = [0] * 6 + [1] * 4 + [2, 7, -1, 2147483647]
 STEPS = (0, 1, 4999, 5000, 10000, 10000, 20000, 70000)
 
+# So often a script is played again, with fewer lines.
+MOST_TRIES = 400
+
 # Each kind of answer and of ended wait must have come. Not among them: a mutex that its owner holds 2147483647 deep, and all 65,536 handles, which
 # no script of some length comes to.
 SIGNALS = {"set": "5 6", "reset": "5 6", "pulse": "5 6", "unlock": "6 288", "arm": "5 6 87", "cancel": "5 6", "apc": "5 6 31", "close": "6"}
@@ -51,6 +54,18 @@ def kind_of_answer(answer):
     if first == "apc":
         return "none" if rest == ["none"] else "apc of a timer" if "at" in rest else "apc"
     return answer if first == "error" else first
+
+
+def shortened(lines, still_differs):
+    """The lines without those that can be left out: halves, quarters and so on, and then each."""
+    tries, size = 0, len(lines) // 2
+    while size and tries < MOST_TRIES:
+        at = 0
+        while at < len(lines) and tries < MOST_TRIES:
+            rest, tries = lines[:at] + lines[at + size :], tries + 1
+            lines, at = (rest, at) if still_differs(rest) else (lines, at + size)
+        size //= 2
+    return lines
 
 
 class Tally(collections.Counter):

@@ -32,16 +32,14 @@ def difference(wanted, found, wanted_name, found_name):
     return lines if len(lines) <= 60 else [*lines[:60], f".. {len(lines) - 60} lines more"]
 
 
-def transcript_failure(script, wanted, found, found_name):
-    """What is told where what a script gives is not what is wanted: the line of the script that answers otherwise, and a diff."""
+def transcript_failure(place, script, wanted, found, found_name):
+    """What is told where what the script of this place gives is not what is wanted: the line of the script that answers otherwise, and a diff."""
     lines = [it.splitlines() for it in (wanted, found)]
     at = next((i for i, (one, other) in enumerate(zip(*lines)) if one != other), min(map(len, lines)))
     sides = [it[at] if at < len(it) else "nothing more" for it in lines]
     told = [re.match(r"(\d+): ", it) for it in sides]
-    with open(script, "rb") as file:
-        number = next((it[1] for it in told if it), file.read().count(b"\n") or 1)
-    place = f"{beside(script)}:{number}: wanted `{sides[0]}`, found `{sides[1]}`"
-    return [place, *difference(wanted, found, "wanted", found_name)]
+    number = next((it[1] for it in told if it), script.count(b"\n") or 1)
+    return [f"{place}:{number}: wanted `{sides[0]}`, found `{sides[1]}`", *difference(wanted, found, "wanted", found_name)]
 
 
 class Count:
@@ -64,13 +62,18 @@ class Count:
             self.failed += 1
             print(*lines, sep="\n", flush=True)
 
-    def holds(self, name, found, wanted):
+    def holds(self, name, found, wanted, above=1):
         """Passes where what was found is what is wanted; else each part that differs is told, at the line of the program that asks."""
         if found == wanted:
             return self.passes()
-        caller = inspect.stack()[1]
+        caller = inspect.stack()[above]
         place = f"{beside(caller.filename)}:{caller.lineno}: {name}"
         return self.fails(place, *told_apart(found, wanted))
+
+    def tries(self, name, call, wanted):
+        """The same of what the call gives, if this test is asked for."""
+        if self.wants(name):
+            self.holds(name, call(), wanted, 2)
 
     def ends(self):
         """Tells the count, and ends the program: well where nothing failed, and something was tried."""

@@ -12,16 +12,9 @@ def write(path, held):
         file.write(held)
 
 
-def bytes_in(path):
-    """The bytes of a file; none where there is no such file."""
-    if not os.path.exists(path):
-        return b""
-    with open(path, "rb") as file:
-        return file.read()
-
-
-def said_of(bytes_said):
-    return [it for it in bytes_said.decode().splitlines() if not it.startswith(("./ntrun: ", "./ntlook: "))]
+def said_of(text):
+    """The lines of what was said, but for a launcher's own."""
+    return [it for it in text.splitlines() if not it.startswith(("./ntrun: ", "./ntlook: "))]
 
 
 def cells(path, beginning):
@@ -85,7 +78,8 @@ class Scratch:
         return ran.returncode, [it for it in said if it.startswith("./ntrun: ")]
 
     def asked(self):
-        return bytes_in(f"{self.rt}.runs").decode().split()
+        with open(f"{self.rt}.runs", encoding="ascii") as file:
+            return file.read().split()
 
     def edit(self):
         with open(f"{self.folder}/crates/ntrun/src/main.rt", "a", encoding="ascii") as file:

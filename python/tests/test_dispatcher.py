@@ -1,8 +1,13 @@
 # SPDX-License-Identifier: MIT OR Apache-2.0
 """The calls by Win32's names: what each returns, and each refusal."""
 import gc
+import os
 import pathlib
 import random
+import re
+import shutil
+import subprocess
+import sys
 import threading
 import tracemalloc
 
@@ -240,6 +245,39 @@ def test_no_call_leaks():
     after = tracemalloc.get_traced_memory()[0]
     tracemalloc.stop()
     assert after - before < 20_000, f"{after - before} bytes more after 300 rounds"
+
+
+# As many dispatchers as it is asked for, each with calls that succeed, pend and are refused.
+ROUNDS = """
+import sys
+from kawhopune import Dispatcher, Refused
+for _ in range(int(sys.argv[1])):
+    with Dispatcher(2, lasting=True) as nt:
+        event = nt.create_event(0)
+        nt.wait_for_multiple_objects(1, [event, 1])
+        nt.set_event(0, event)
+        nt.grants, nt.why(), nt.object(event), nt.wait_of(1)
+        with nt.copy() as other:
+            other.close_handle(0, event)
+        try:
+            nt.set_event(0, 99)
+        except Refused:
+            pass
+"""
+
+
+def lost_after(rounds):
+    """How many bytes valgrind finds lost for good after such rounds. (Python itself loses some.)"""
+    words = ["valgrind", "--leak-check=full", sys.executable, "-c", ROUNDS, str(rounds)]
+    ran = subprocess.run(words, env={**os.environ, "PYTHONMALLOC": "malloc"}, capture_output=True, text=True, check=True)
+    assert "Invalid" not in ran.stderr, ran.stderr
+    found = re.search(r"definitely lost: ([\d,]+) bytes", ran.stderr)
+    return int(found[1].replace(",", "")) if found else 0
+
+
+@pytest.mark.skipif(shutil.which("valgrind") is None, reason="valgrind is not on this machine")
+def test_nothing_is_lost_by_valgrind():
+    assert lost_after(40) == lost_after(1)
 
 
 def test_the_stub_has_each_call():

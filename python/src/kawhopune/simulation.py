@@ -154,7 +154,7 @@ class World:
             self._end_waits()
 
     def _knot(self) -> list[int]:
-        """The threads that hold each other. (In the dispatcher's knot those are too that make no more calls.)"""
+        """The threads that hold each other. (In the dispatcher's knot those are too that make no further calls.)"""
         over = [number for number in range(self.dispatcher.threads) if number not in self._running]
         return [number for number in self.dispatcher.why(over).knot if number in self._running]
 

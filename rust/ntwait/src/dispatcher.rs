@@ -392,7 +392,7 @@ impl Dispatcher {
         ask!(self, nt_close_handle, thread.0, handle.0).map(drop)
     }
 
-    /// ExitThread: the thread makes no more calls, and its mutexes are abandoned.
+    /// ExitThread: the thread makes no further calls, and its mutexes are abandoned.
     ///
     /// ```
     /// # use ntwait::{Dispatcher, Refused, Status, Thread, Timeout, Wait};
@@ -563,7 +563,7 @@ impl Dispatcher {
         there_is(error, Moment(moment))
     }
 
-    /// For a driver that blocks its threads: the thread sleeps no more, though its wait may pend.
+    /// For a driver that blocks its threads: the thread no longer sleeps, though its wait may pend.
     ///
     /// ```
     /// # use ntwait::{Dispatcher, Refused, Thread, Timeout};
@@ -655,7 +655,7 @@ impl Dispatcher {
         Refused::unless(error).map(|()| Object::of(&it))
     }
 
-    /// Why threads wait. Threads marked in `over` make no more calls. In `knot`, which has a place for each thread, those are marked that hold each
+    /// Why threads wait. Threads marked in `over` make no further calls. In `knot`, which has a place for each thread, those are marked that hold each
     /// other: nothing ends their waits, whatever is called. InvalidParameter if `knot` is shorter.
     ///
     /// ```

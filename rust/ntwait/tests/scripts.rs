@@ -3,7 +3,7 @@
 use ntwait::{Access, Dispatcher, Handle, Moment, Refused, Thread, Timeout, Wait};
 use std::collections::{BTreeSet, HashMap};
 use std::fs;
-use std::path::{Path, PathBuf};
+use std::path::Path;
 
 struct Player {
     nt: Dispatcher,
@@ -117,11 +117,10 @@ impl Player {
     }
 }
 
-fn transcript(script: &[u8]) -> String {
+fn transcript(script: &str) -> String {
     let (mut told, mut player) = (String::new(), None);
-    for (at, line) in script.split(|byte| *byte == b'\n').enumerate() {
-        let text = String::from_utf8_lossy(line.split(|byte| *byte == b';').next().unwrap_or(b"")).into_owned();
-        let words: Vec<_> = text.split_whitespace().collect();
+    for (at, line) in script.lines().enumerate() {
+        let words: Vec<_> = line.split(';').next().unwrap_or("").split_whitespace().collect();
         match (&mut player, &words[..]) {
             (_, []) => {}
             (None, words) => {
@@ -136,32 +135,34 @@ fn transcript(script: &[u8]) -> String {
     told + &format!("end: pending {pending}\n")
 }
 
-fn scripts_below(folder: &Path, found: &mut Vec<PathBuf>) {
-    for entry in fs::read_dir(folder).expect("a folder").flatten() {
-        let path = entry.path();
-        if path.is_dir() {
-            scripts_below(&path, found);
-        } else if path.extension().is_some_and(|it| it == "nts") {
-            found.push(path);
-        }
-    }
+/// The lines of a block of tests/scripts that have this mark, without it.
+fn marked(block: &str, mark: char) -> String {
+    let lines = block.lines().filter_map(|it| it.strip_prefix(mark));
+    lines.map(|it| format!("{}\n", it.strip_prefix(' ').unwrap_or(it))).collect()
+}
+
+/// The worked scripts that have no fault: each with its name and its transcript.
+fn worked_scripts(folder: &Path) -> Vec<(String, String, String)> {
+    let files = fs::read_dir(folder).expect("the worked scripts").map(|it| fs::read_to_string(it.expect("a file").path()).expect("a text"));
+    let blocks = files.flat_map(|it| it.split("\n\n").map(String::from).collect::<Vec<_>>());
+    let scripts = blocks.filter(|it| it.starts_with("script ") && marked(it, '!').is_empty());
+    scripts.map(|it| (it.lines().next().unwrap_or("").into(), marked(&it, '|'), marked(&it, '>'))).collect()
+}
+
+/// The scripts of `examples`, likewise.
+fn examples(folder: &Path) -> Vec<(String, String, String)> {
+    let paths = fs::read_dir(folder).expect("the examples").map(|it| it.expect("an example").path());
+    let scripts = paths.filter(|it| it.extension().is_some_and(|it| it == "nts"));
+    let text = |path: &Path| fs::read_to_string(path).expect("a text");
+    scripts.map(|it| (it.display().to_string(), text(&it), text(&it.with_extension("transcript")))).collect()
 }
 
 #[test]
 fn worked_scripts_give_the_same_transcripts() {
     let top = Path::new(env!("CARGO_MANIFEST_DIR")).join("../..");
-    let mut scripts = Vec::new();
-    scripts_below(&top.join("tests/scripts"), &mut scripts);
-    scripts_below(&top.join("examples"), &mut scripts);
-    let errors = fs::read_to_string(top.join("tests/scripts/errors")).expect("the scripts with faults");
-    scripts.retain(|it| {
-        let name = it.with_extension("").strip_prefix(top.join("tests/scripts")).map(|it| format!("{}: ", it.display()));
-        let is_faulty = name.is_ok_and(|name| errors.lines().any(|line| line.starts_with(&name)));
-        it.with_extension("transcript").exists() && !is_faulty
-    });
+    let scripts = [worked_scripts(&top.join("tests/scripts")), examples(&top.join("examples"))].concat();
     assert!(scripts.len() >= 100, "{}", scripts.len());
-    for script in scripts {
-        let wanted = fs::read_to_string(script.with_extension("transcript")).expect("a transcript");
-        assert_eq!(transcript(&fs::read(&script).expect("a script")), wanted, "{}", script.display());
+    for (name, script, wanted) in scripts {
+        assert_eq!(transcript(&script), wanted, "{name}");
     }
 }
