@@ -36,14 +36,25 @@ static bool waits_for_those(uint32_t thread, const bool *holders)
     return held > 0 && (wait.all || held == wait.count);
 }
 
-/* Whether the thread sleeps without end, which it does on purpose. */
+/* Whether this object is the one that stands for the process. */
+static bool stands_for_process(uint32_t number)
+{
+    struct nt_opened opened;
+    const uint32_t handle = waiting.process_handle;
+    return handle != NO_HANDLE && nt_opened(&waiting.dispatcher, handle, &opened) == 0 && opened.object == number;
+}
+
+/* Whether the thread sleeps without end, or waits for its own process to end, which it does on purpose. */
 static bool is_asleep_for_good(uint32_t thread)
 {
     struct nt_pending_wait wait;
-    return nt_waits_for(&waiting.dispatcher, thread, &wait) == 0 && wait.count == 0;
+    uint32_t number;
+    if (nt_waits_for(&waiting.dispatcher, thread, &wait) != 0)
+        return false;
+    return wait.count == 0 || (wait.count == 1 && nt_waited_object(&waiting.dispatcher, thread, 0, &number) == 0 && stands_for_process(number));
 }
 
-/* Threads that only wait for a knot that was reported are no new knot, and neither is one that sleeps. Answers
+/* Threads that only wait for a knot that was reported are no new knot, and neither is one that sleeps on purpose. Answers
  * whether any is left. All these were reported then. */
 static bool is_new_knot(const bool *knot)
 {

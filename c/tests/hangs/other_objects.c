@@ -1,4 +1,4 @@
-/* A wait for the process, which has not ended; and another thread's, for a completion port, with a deadline. */
+/* A wait for the process, which is reported only if asked, as a sleep is; and another thread's, for a completion port, with a deadline. */
 #include "hang.h"
 
 static HANDLE port, ready;
