@@ -27,7 +27,7 @@ static void tell(struct seat *caller, struct seat *seat, uint32_t how)
 {
     comes_before(&seat->word);
     const uint32_t was = atomic_exchange_explicit(&seat->word, how, memory_order_release);
-    STEP(word, &seat->word, how == IS_GRANTED ? Grants : Calls, seat->number);
+    STEP(word, &seat->word, how == IS_GRANTED ? Grants : Calls, seat->number, was == IS_ASLEEP);
     if (was != IS_ASLEEP)
         return;
     if (waiting.wakes < WOKEN_LATER) {

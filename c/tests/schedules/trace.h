@@ -161,6 +161,8 @@ static void name_step(enum protocol protocol, const volatile void *word, const u
     if (me == NULL)
         return;
     const enum step step = choose_step(protocol, (enum step)names[0]);
+    if (step == Grants || step == Calls)
+        me->owes |= (uint64_t)names[2] << names[1];
     if (trace.file != NULL && step != NO_STEP) {
         const size_t place = word == NULL ? put_nameless() : last_step_on(word);
         trace.steps[place] = (struct told_step){ protocol, step, me->tells.is_thread[protocol], other_of(step, names[1]) };
@@ -250,6 +252,19 @@ static void name_wake(enum protocol protocol, const volatile void *word, const u
         put_step(protocol, (enum step)names[1], me->tells.is_thread[protocol], 0);
 }
 
+/* A wake-up of this thread, which slept or not. A handler of signals may have told it something more and woken it: then the call that the handler had
+ * interrupted owes it nothing any longer, and a sleep that it ends has ended for no reason. */
+static void tell_wake_of(uint32_t thread, bool slept)
+{
+    struct strand *me = run.runs;
+    const uint64_t owed = me->owes & UINT64_C(1) << thread;
+    me->owes &= ~owed;
+    if (owed != 0)
+        put_step(word_protocol, Wakes, me->tells.is_thread[word_protocol], thread);
+    else if (slept)
+        put_step(word_protocol, Stirs, thread, 0);
+}
+
 /* A wake-up on this word has woken that strand, or none. (Who pays and is not of its seat here wakes somebody who seems to wake by itself.) */
 static void tell_wake(const volatile void *word, struct strand *woken)
 {
@@ -260,8 +275,10 @@ static void tell_wake(const volatile void *word, struct strand *woken)
     const enum protocol protocol = me->tells.to_wake.protocol;
     const uint32_t thread = me->tells.is_thread[protocol];
     const bool tells = woken != NULL && woken->is_told_asleep && (me->tells.to_wake.names[0] != PaysOne || thread < SEATS_TOLD);
-    const uint32_t other = protocol == word_protocol ? me->tells.to_wake.names[2] : tells ? woken->tells.is_thread[protocol] : 0;
-    put_step(protocol, (enum step)me->tells.to_wake.names[tells ? 0 : 1], thread, other);
+    if (protocol == word_protocol)
+        tell_wake_of(me->tells.to_wake.names[2], tells);
+    else
+        put_step(protocol, (enum step)me->tells.to_wake.names[tells ? 0 : 1], thread, tells ? woken->tells.is_thread[protocol] : 0);
     if (tells)
         woken->is_told_asleep = false;
 }
