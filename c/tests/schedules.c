@@ -201,12 +201,23 @@ static void look_at_all(void)
 
 #include "schedules/program.h"
 
+/* Makes this memory zero. A run has written few of its pages: so whole pages are given back, and are zero from then on. */
+static void clear(void *memory, size_t size)
+{
+    const size_t page = 4096, front = -(uintptr_t)memory % page, pages = (size - front) / page * page;
+    char *at = memory;
+    memset(at, 0, front);
+    memset(at + front + pages, 0, size - front - pages);
+    if (madvise(at + front, pages, MADV_DONTNEED) != 0)
+        memset(at + front, 0, pages);
+}
+
 /* Nothing is left of the run before. */
 static void begin_anew(void)
 {
     nt_close(&waiting.dispatcher);
     free(waiting.dispatcher.room);
-    memset(&waiting, 0, sizeof waiting);
+    clear(&waiting, sizeof waiting);
     memset(&own, 0, sizeof own);
     memset(expected, 0, sizeof expected);
     process.is_open = false;

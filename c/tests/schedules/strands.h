@@ -16,6 +16,10 @@
 /* What a thread finds of its own is one variable, which is changed at each switch. */
 #define own OWN
 #include "step_names.h"
+#include "../../nt.h"
+/* (To open and close a dispatcher for 4,096 threads takes longer than most of these programs.) */
+#undef NT_MANY_THREADS
+#define NT_MANY_THREADS NT_MAXIMUM_THREADS
 #include "../../ntwin/inside.h"
 #include "../../schedule/chance.h"
 
