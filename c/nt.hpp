@@ -227,7 +227,7 @@ public:
     }
     result<struct nt_opened> opened(handle it) const noexcept { return read<struct nt_opened>(::nt_opened, it.number); }
     result<struct nt_object> object(std::uint32_t number) const noexcept { return read<struct nt_object>(::nt_object, number); }
-    /* Why threads wait, where those in `over` make no call any more. It takes memory, and may throw std::bad_alloc. */
+    /* Why threads wait, where those in `over` make no further call. It takes memory, and may throw std::bad_alloc. */
     result<why> why_they_wait(const std::vector<thread> &over = {}, std::uint64_t up_to = greatest_moment) const
     {
         const std::uint32_t many = threads().value();

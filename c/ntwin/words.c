@@ -19,7 +19,7 @@
 extern void __tsan_acquire(void *) __attribute__((weak));
 extern void __tsan_release(void *) __attribute__((weak));
 
-/* Not null where anybody is told: a sanitizer, or a scheduler (schedule/sleep_sets.c). (A call looks at this one word.) */
+/* Not null where somebody listens: a sanitizer, or a scheduler (schedule/sleep_sets.c). (A call looks at this one word.) */
 #define TELLS_SCHEDULER
 static void (*observer)(void *word) = __tsan_acquire;
 

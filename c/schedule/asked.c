@@ -3,7 +3,7 @@
  *
  * random:SEED[,COUNT]     a run by chance; with COUNT that number of runs, each in a process of its own, until one fails
  * pct:SEED,DEPTH[,COUNT]  the same by priorities, which change DEPTH - 1 times in a run
- * explore:BOUND[,COUNT]   all runs with a cost within the bound, but no more than COUNT (tree.c)
+ * explore:BOUND[,COUNT]   all runs with a cost within the bound, COUNT at most (tree.c)
  * explore:all[,COUNT]     all runs, but for those that differ in the order of steps alone that touch nothing in common (sleep_sets.c)
  * explore:plain[,COUNT]   all runs
  * replay:FILE             the run that a file of decisions says

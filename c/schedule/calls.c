@@ -91,7 +91,7 @@ static void touch_served(uint32_t object)
 
 /* ---- By kinds of calls. */
 
-/* A call that changes no more than what this handle names. */
+/* A call that changes only what this handle names. */
 static void touch_by_handle(uint32_t handle)
 {
     if (!notes_touches)

@@ -65,7 +65,7 @@ static inline bool by_schedule(void)
     return __builtin_expect(is_scheduled, 0);
 }
 
-/* Another thread may go on here. The caller touches no more than this object from here on, and nothing where that is null, as far as is known here:
+/* Another thread may go on here. The caller touches only this object from here on, and nothing where that is null, as far as is known here:
  * what it takes, gives back, wakes or sleeps on is noted where it does so. */
 static inline void may_switch_at(const volatile void *object)
 {
