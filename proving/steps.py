@@ -253,6 +253,7 @@ def proved(tree, work, is_all):
         ("object numbers and handles", command(tree, "tests/types"), False),
         ("what closed objects leave", command(tree, "tests/memory"), False),
         ("the threads of a plan", command(tree, "tests/threads"), False),
+        ("a grant between a look and a sleep", command(tree, "tests/woken"), False),
         ("the scripts, each growth refused", again(["ntrun", "ntlook"], no_growth, "tests/growths/scripts"), False),
         ("the programs of docs/EMBEDDING.md, each growth refused", command(tree, "tests/growths/example"), False),
         ("the examples", functools.partial(examples, tree), False),
