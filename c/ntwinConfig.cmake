@@ -20,4 +20,5 @@ if(NOT TARGET ntwin::port)
         INTERFACE_COMPILE_OPTIONS "SHELL:-include ${_ntwin_prefix}/include/ntwin/win/ntwin_keywords.h")
 endif()
 set_target_properties(ntwin::ntwin PROPERTIES IMPORTED_LOCATION "${_ntwin_prefix}/lib/libntwin.so")
-set_target_properties(ntwin::static PROPERTIES IMPORTED_LOCATION "${_ntwin_prefix}/lib/libntwin.a")
+set_target_properties(ntwin::static PROPERTIES IMPORTED_LOCATION "${_ntwin_prefix}/lib/libntwin.a"
+    INTERFACE_LINK_LIBRARIES "Threads::Threads;${CMAKE_DL_LIBS}") # (a glibc before 2.34 has dlopen in a library of its own)

@@ -49,6 +49,7 @@
 #if defined __has_include
 #if __has_include(<sys/single_threaded.h>)
 #include <sys/single_threaded.h>
+#pragma weak __libc_single_threaded /* (glibc before 2.32 lacks it) */
 #define TELLS_WHETHER_ALONE
 #endif
 #endif
