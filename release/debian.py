@@ -11,7 +11,7 @@ from binaries import binaries, libraries
 
 MAINTAINER = "Kawhopune maintainers <maintainers@users.noreply.kawhopune.example>"
 MULTIARCH = "x86_64-linux-gnu"
-OF_LIBRARY = {"libc.so.6": "libc6", "libm.so.6": "libc6", "ld-linux-x86-64.so.2": "libc6", "libgcc_s.so.1": "libgcc-s1"}
+OF_LIBRARY = {it: "libc6" for it in ("libc.so.6", "libm.so.6", "libpthread.so.0", "libdl.so.2", "ld-linux-x86-64.so.2")} | {"libgcc_s.so.1": "libgcc-s1"}
 HERE = os.path.dirname(os.path.realpath(__file__))
 
 # Each package: what of the stage it has, and what its record says.

@@ -7,8 +7,9 @@ import subprocess
 import sys
 import tarfile
 
+import oldest
 from archive import below, set_times
-from binaries import newest_glibc
+from binaries import binaries, newest_glibc
 
 TOP = os.path.dirname(os.path.dirname(os.path.realpath(__file__)))
 PARTS = ("README.md", "pyproject.toml", "setup.py", "MANIFEST.in", "src")
@@ -62,7 +63,7 @@ def packed_again(path, time):
     os.replace(f"{path}.new", path)
 
 
-def wheels(stage, room, to, version, time):
+def wheels(stage, room, to, version, time, stand_ins):
     """Makes the wheel and the archive of sources; answers their names, or none where no Python here can build them."""
     builder = python()
     if not builder:
@@ -70,9 +71,10 @@ def wheels(stage, room, to, version, time):
         return []
     folder = f"{room}/package"
     lay_out(stage, folder, version.replace("-UNPROVED", "+unproved"), time)
-    library = {"NTWIN_LIBRARY": f"{stage}/lib/libntwin.a"}
+    library = {"NTWIN_LIBRARY": f"{stage}/lib/libntwin.a", "LDFLAGS": stand_ins}
     build = ["build", f"--build-base={room}/base", f"--build-lib={room}/built"]
     setup(builder, folder, time, *build, **library)
+    oldest.hold(binaries(f"{room}/built"), others=("Py", "_Py"))
     tag = f"manylinux_{newest_glibc(f'{room}/built').replace('.', '_')}_x86_64"
     set_times(f"{room}/built", time)
     words = [*build, "bdist_wheel", f"--plat-name={tag}", f"--bdist-dir={room}/wheel", f"--dist-dir={room}/made"]
