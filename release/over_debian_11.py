@@ -62,14 +62,27 @@ class Oldest:
         status, found = self.ran(*words)
         self.expect(f"{what} over glibc {oldest.OLDEST}", status == 0 and found == wrote, f"status {status}, {found}")
 
+    def build(self, source, kind):
+        """Compiles a source to the file `program` there; answers its name."""
+        name = os.path.basename(source)[:-2]
+        words = compile_with(self.root, f"{self.root}/ntwin", source, f"{self.root}/program", kind)
+        built = subprocess.run(words, stdin=subprocess.DEVNULL, capture_output=True, text=True, check=False)
+        self.expect(f"{name}, {kind}, built over glibc {oldest.OLDEST}", built.returncode == 0, built.stderr)
+        return name
+
     def try_examples(self, examples, output_of):
         for source in examples:
-            name = os.path.basename(source)[:-2]
             for kind in KINDS:
-                words = compile_with(self.root, f"{self.root}/ntwin", source, f"{self.root}/program", kind)
-                built = subprocess.run(words, stdin=subprocess.DEVNULL, capture_output=True, text=True, check=False)
-                self.expect(f"{name}, {kind}, built over glibc {oldest.OLDEST}", built.returncode == 0, built.stderr)
+                name = self.build(source, kind)
                 self.wants(f"{name}, {kind}", output_of(name), "/program")
+
+    def try_tests(self, sources):
+        """Tests of the library, each of which counts in its last line."""
+        for source in sources:
+            name = self.build(source, "static")
+            status, said = self.ran("/program")
+            has_passed = status == 0 and re.search(r"(?m)^[1-9]\d* passed, 0 failed\Z", said.rstrip())
+            self.expect(f"the test {name} over glibc {oldest.OLDEST}", has_passed, f"status {status}, {said}")
 
     def try_programs(self, script, transcript, version):
         shutil.copy(script, f"{self.root}/script.nts")
