@@ -93,14 +93,33 @@ static void check_wait(DWORD status, DWORD ms, uint64_t began)
 
 /* ---- What holds whenever all threads sleep. */
 
-enum { EVENTS = 4, SEMAPHORES = 2, MUTEXES = 2, TIMERS = 3, THREADS = 24, FOREIGN = 4 };
+enum { MOST_ROUNDS = 3000 }; /* in which the first thread ends some waits */
+enum { EVENTS = 4, SEMAPHORES = 2, MUTEXES = 2, TIMERS = 3, THREADS = 24, FOREIGN = 4, VALUES = 2, VALUE_BELOW = 3, VARIABLES = ADDRESSES - VALUES };
 
 /* The objects of the program. */
 static struct {
     HANDLE events[EVENTS], semaphores[SEMAPHORES], mutexes[MUTEXES], timers[TIMERS], threads[THREADS];
     uint32_t made; /* how many of the threads */
     uint32_t minders[TIMERS]; /* whose routine a timer has, the thread's number from 1 on; or 0 */
+    uint32_t values[VALUES];  /* at which threads wait; and on these they sleep: */
+    CONDITION_VARIABLE variables[VARIABLES];
+    CRITICAL_SECTION section; /* of them */
 } program;
+
+/* ---- The place of each strand in a list of those that wait at an address. */
+
+static struct parked places[MOST_STRANDS];
+
+static struct parked *place_of_strand(const struct strand *strand)
+{
+    return &places[strand - run.strands];
+}
+
+static uint32_t strand_of_place(const volatile void *word)
+{
+    const uintptr_t at = (uintptr_t)word - (uintptr_t)&places[0].word;
+    return at % sizeof places[0] == 0 && at < sizeof places ? (uint32_t)(at / sizeof places[0]) : NO_STRAND;
+}
 
 static uint32_t hear_timer(uint32_t who, uint32_t timer, bool has_routine, uint32_t refused)
 {
@@ -222,14 +241,19 @@ static void begin_anew(void)
     memset(expected, 0, sizeof expected);
     process.is_open = false;
     process.has_barriers = true;
-    program.made = 0;
-    memset(program.minders, 0, sizeof program.minders);
+    memset(&program, 0, sizeof program);
+    memset(places, 0, sizeof places);
+    memset(parkings, 0, sizeof parkings);
 }
 
 int main(int count, char **words)
 {
     const uint64_t programs = count > 1 ? strtoull(words[1], NULL, 10) : 3000, first = count > 2 ? strtoull(words[2], NULL, 10) : 1;
     trace.file = count > 3 ? fopen(words[3], "w") : NULL;
+    for (int i = 0; i < VALUES; i++)
+        told_addresses[i] = &program.values[i];
+    for (int i = 0; i < VARIABLES; i++)
+        told_addresses[VALUES + i] = &program.variables[i];
     run.look = look_at_all;
     run.handle = act_in_handler;
     for (uint64_t seed = first; seed < first + programs; seed++) {

@@ -253,7 +253,7 @@ static LONG elsewhere;
 static void *wait_for_word_and_elsewhere(void *none)
 {
     LONG zero = 0;
-    word_of_first = &parked.word;
+    word_of_first = &own_place.word;
     wait_for_word();
     while (ReadAcquire(&elsewhere) == 0)
         WaitOnAddress(&elsewhere, &zero, sizeof zero, INFINITE);

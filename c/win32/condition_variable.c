@@ -12,9 +12,13 @@ static struct parking *begin_to_sleep(PCONDITION_VARIABLE variable)
 {
     struct parking *parking = parking_of(variable);
     atomic_fetch_add_explicit(&parking->count, 1, memory_order_relaxed);
+    STEP_ON(variable, park, &parking->count, Counts, 0);
     take_latch(&parking->latch);
+    STEP(park, &parking->latch, TakesToLook);
+    STEP(park, NULL, LooksSame);
     park(parking, variable, ON_VARIABLE);
     give_latch(&parking->latch);
+    STEP(park, &parking->latch, GivesToSleep);
     return parking;
 }
 
@@ -49,6 +53,8 @@ static void wake_sleepers(PCONDITION_VARIABLE variable, uint32_t most)
     may_switch_at(variable);
     if (atomic_load_explicit(&parking_of(variable)->count, memory_order_relaxed) != 0)
         unpark(variable, most);
+    else
+        STEP_ON(variable, park, &parking_of(variable)->count, most == 1 ? SeesNobody : SeesNobodyAll);
 }
 
 void WakeConditionVariable(PCONDITION_VARIABLE variable)

@@ -28,11 +28,11 @@ static void forget_other_sleepers(DWORD caller)
 static void forget_others_parked(void)
 {
     memset(parkings, 0, sizeof parkings);
-    if (atomic_load_explicit(&parked.word, memory_order_relaxed) != PARKED)
+    if (atomic_load_explicit(&own_place.word, memory_order_relaxed) != PARKED)
         return;
-    struct parking *mine = parking_of(parked.address);
-    parked.earlier = parked.later = NULL;
-    mine->first = mine->last = &parked;
+    struct parking *mine = parking_of(own_place.address);
+    own_place.earlier = own_place.later = NULL;
+    mine->first = mine->last = &own_place;
     atomic_store_explicit(&mine->count, 1, memory_order_relaxed);
 }
 

@@ -16,7 +16,9 @@ struct parked {
     DWORD id;
     uint32_t looks, waits;         /* how often it looks at its word before it sleeps, and how often it has waited */
 };
-static _Thread_local struct parked parked __attribute__((tls_model("initial-exec")));
+#ifndef own_place /* (A test may have threads of its own making.) */
+static _Thread_local struct parked own_place __attribute__((tls_model("initial-exec")));
+#endif
 
 static struct parking {
     _Atomic uint32_t latch;
@@ -32,17 +34,18 @@ static struct parking *parking_of(const volatile void *address)
 /* The caller waits at this address from now on, under the latch. */
 static void park(struct parking *parking, const volatile void *address, enum why why)
 {
-    parked.why = why;
-    parked.id = id_of_caller();
-    atomic_store_explicit(&parked.word, PARKED, memory_order_relaxed);
-    parked.address = address;
-    parked.later = NULL;
-    parked.earlier = parking->last;
+    own_place.why = why;
+    own_place.id = id_of_caller();
+    atomic_store_explicit(&own_place.word, PARKED, memory_order_relaxed);
+    own_place.address = address;
+    own_place.later = NULL;
+    own_place.earlier = parking->last;
     if (parking->last != NULL)
-        parking->last->later = &parked;
+        parking->last->later = &own_place;
     else
-        parking->first = &parked;
-    parking->last = &parked;
+        parking->first = &own_place;
+    parking->last = &own_place;
+    STEP(park, NULL, Parks);
 }
 
 /* Takes a thread out of the list, under the latch. */
@@ -61,21 +64,21 @@ static void leave_parking(struct parking *parking, struct parked *who)
 
 static inline bool is_unparked(void)
 {
-    return atomic_load_explicit(&parked.word, memory_order_acquire) == UNPARKED;
+    return atomic_load_explicit(&own_place.word, memory_order_acquire) == UNPARKED;
 }
 
 /* Looks at the caller's word before it sleeps, the next time half as often where that was in vain. */
 static bool look_whether_unparked(void)
 {
-    const uint32_t looks = parked.waits++ % RETRIES == 0 && process.looks ? LOOKS_AT_WORD : parked.looks;
+    const uint32_t looks = own_place.waits++ % RETRIES == 0 && process.looks ? LOOKS_AT_WORD : own_place.looks;
     for (uint32_t i = 0; i < looks; i++) {
         if (is_unparked()) {
-            parked.looks = LOOKS_AT_WORD;
+            own_place.looks = LOOKS_AT_WORD;
             return true;
         }
         rest();
     }
-    parked.looks = looks / 2;
+    own_place.looks = looks / 2;
     return is_unparked();
 }
 
@@ -93,22 +96,30 @@ static bool sleep_parked(struct parking *parking, uint64_t moment)
         .tv_nsec = (long)(moment % MOMENTS_PER_SECOND) * NANOSECONDS_PER_MOMENT,
     };
     bool was_unparked = moment == NEVER && look_whether_unparked();
+    if (was_unparked)
+        STEP(park, &own_place.word, SeesUnparked);
     if (!was_unparked)
         rest_with_packet();
     while (!was_unparked && (moment == NEVER || monotonic() < moment)) {
-        sleep_on(&parked.word, PARKED, moment == NEVER ? NULL : &until);
+        TO_SLEEP(park, &own_place.word, FallsAsleep, FallsAsleep, Stirs, Restarts, 0);
+        sleep_on(&own_place.word, PARKED, moment == NEVER ? NULL : &until);
         was_unparked = is_unparked();
+        STEP(park, &own_place.word, Reads);
     }
     if (!was_unparked) {
+        STEP(park, NULL, TimesOut);
         take_latch(&parking->latch);
+        STEP(park, &parking->latch, TakesToLeave);
         was_unparked = is_unparked();
+        STEP(park, &own_place.word, Leaves);
         if (!was_unparked) {
-            leave_parking(parking, &parked);
-            atomic_store_explicit(&parked.word, UNPARKED, memory_order_relaxed);
+            leave_parking(parking, &own_place);
+            atomic_store_explicit(&own_place.word, UNPARKED, memory_order_relaxed);
         }
         give_latch(&parking->latch);
+        STEP(park, &parking->latch, GivesToGo);
     }
-    comes_after(&parked.word);
+    comes_after(&own_place.word);
     if (own.rests)
         go_on_with_packet();
     return was_unparked;
@@ -120,23 +131,32 @@ static void unpark(const volatile void *address, uint32_t most)
     _Atomic uint32_t *asleep[AWAKENED_AT_ONCE];
     uint32_t count = 0, unparked = 0;
     struct parking *parking = parking_of(address);
+    STEP_ON(address, park, &parking->count, most == 1 ? SeesSome : SeesSomeAll);
     take_latch(&parking->latch);
+    STEP(park, &parking->latch, most == 1 ? TakesToUnpark : TakesToUnparkAll);
     for (struct parked *at = parking->first, *next; at != NULL && unparked < most; at = next) {
         next = at->later;
         if (at->address != address)
             continue;
+        STEP(park, NULL, most == 1 ? TakesOff : TakesOffAll, PARKED_THREAD(&at->word));
         leave_parking(parking, at);
         unparked++;
         comes_before(&at->word);
         atomic_store_explicit(&at->word, UNPARKED, memory_order_release);
-        if (count < AWAKENED_AT_ONCE)
+        if (count < AWAKENED_AT_ONCE) {
             asleep[count++] = &at->word;
-        else
+        } else {
+            TO_WAKE(park, &at->word, Wakes, Wakes, PARKED_THREAD(&at->word));
             wake_one(&at->word);
+        }
     }
     give_latch(&parking->latch);
-    for (uint32_t i = 0; i < count; i++)
+    STEP(park, &parking->latch, most == 1 ? FinishesAndGives : FinishesAllAndGives);
+    for (uint32_t i = 0; i < count; i++) {
+        TO_WAKE(park, asleep[i], Wakes, Wakes, PARKED_THREAD(asleep[i]));
         wake_one(asleep[i]);
+    }
+    STEP(park, NULL, Returns);
 }
 
 /* ---- Waits on an address. */
@@ -177,13 +197,17 @@ static BOOL wait_on(volatile void *address, const void *compare, SIZE_T size, DW
     struct parking *parking = parking_of(address);
     /* (Who changes the value and then sees no thread counted here has changed it before it is looked at once more.) */
     atomic_fetch_add_explicit(&parking->count, 1, memory_order_seq_cst);
+    STEP_ON(address, park, &parking->count, Counts, *(const uint8_t *)compare);
     take_latch(&parking->latch);
+    STEP(park, &parking->latch, TakesToLook);
     const bool waits = is_same(address, compare, size);
+    STEP(park, NULL, waits ? LooksSame : LooksOther);
     if (waits)
         park(parking, address, why);
     else
         atomic_fetch_sub_explicit(&parking->count, 1, memory_order_relaxed);
     give_latch(&parking->latch);
+    STEP(park, &parking->latch, waits ? GivesToSleep : GivesToGo);
     return !waits || sleep_parked(parking, moment) || fail(ERROR_TIMEOUT);
 }
 
@@ -198,6 +222,8 @@ static void wake_by_address(PVOID address, uint32_t most)
     atomic_thread_fence(memory_order_seq_cst);
     if (atomic_load_explicit(&parking_of(address)->count, memory_order_relaxed) != 0)
         unpark(address, most);
+    else
+        STEP_ON(address, park, &parking_of(address)->count, most == 1 ? SeesNobody : SeesNobodyAll);
 }
 
 void WakeByAddressSingle(PVOID address)

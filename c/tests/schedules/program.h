@@ -165,6 +165,76 @@ static void end_thread_seldom(void)
         ExitThread(0);
 }
 
+/* ---- Waits at an address, and on a condition variable. */
+
+static void *any_address(int count, void *first, size_t size)
+{
+    return (char *)first + below((uint32_t)count) * size;
+}
+
+/* Whether a wait of this number of ms, which began then, may time out. */
+static void check_timeout(BOOL ended, DWORD ms, uint64_t began)
+{
+    if (!ended && (GetLastError() != ERROR_TIMEOUT || run.now / NANOSECONDS_PER_MOMENT < began / NANOSECONDS_PER_MOMENT + (uint64_t)ms * 10000))
+        broken("a wait of %u ms at an address fails: %u", ms, GetLastError());
+}
+
+static void wait_at_address(void)
+{
+    const uint64_t began = run.now;
+    uint32_t *value = any_address(VALUES, program.values, sizeof *program.values), compare = one_in(4) ? below(VALUE_BELOW) : *value;
+    const DWORD ms = any_time(false);
+    check_timeout(WaitOnAddress(value, &compare, (SIZE_T)1 << below(3), ms), ms, began);
+}
+
+/* (The store is late, as others see it.) */
+static void change_value(uint32_t *value)
+{
+    point();
+    name_address(value);
+    store_late(value, below(VALUE_BELOW));
+    WakeByAddressAll(value);
+}
+
+static void change_any_value(void)
+{
+    change_value(any_address(VALUES, program.values, sizeof *program.values));
+}
+
+static void wake_one_at_address(void)
+{
+    uint32_t *value = any_address(VALUES, program.values, sizeof *program.values);
+    STEP_ON(value, park, NULL, Calls, 0);
+    WakeByAddressSingle(value);
+}
+
+static void sleep_on_variable(void)
+{
+    const uint64_t began = run.now;
+    CONDITION_VARIABLE *variable = any_address(VARIABLES, program.variables, sizeof *program.variables);
+    const DWORD ms = any_time(false);
+    EnterCriticalSection(&program.section);
+    check_timeout(SleepConditionVariableCS(variable, &program.section, ms), ms, began);
+    LeaveCriticalSection(&program.section);
+}
+
+static void wake_all_on_variable(CONDITION_VARIABLE *variable)
+{
+    STEP_ON(variable, park, NULL, Changes, 0);
+    WakeAllConditionVariable(variable);
+}
+
+static void wake_on_variable(void)
+{
+    CONDITION_VARIABLE *variable = any_address(VARIABLES, program.variables, sizeof *program.variables);
+    if (one_in(3)) {
+        wake_all_on_variable(variable);
+    } else {
+        STEP_ON(variable, park, NULL, Calls, 0);
+        WakeConditionVariable(variable);
+    }
+}
+
 /* As the end of the process does. */
 static void try_the_lock(void)
 {
@@ -177,7 +247,8 @@ static void act(void)
     static void (*const all[])(void) = {
         set_event, set_event, reset_event, pulse_event, release_semaphore, release_mutex, set_any_timer, set_any_timer, cancel_timer, queue_apc,
         sleep_for_a_time, sleep_for_a_time, wait_for_one, wait_for_one, wait_for_one, wait_for_several, wait_for_several, wait_for_several,
-        signal_and_wait, signal_and_wait, begin_thread_seldom, end_thread_seldom, try_the_lock,
+        signal_and_wait, signal_and_wait, begin_thread_seldom, end_thread_seldom, try_the_lock, wait_at_address, wait_at_address,
+        change_any_value, wake_one_at_address, sleep_on_variable, sleep_on_variable, wake_on_variable,
     };
     sums.calls++;
     all[below(sizeof all / sizeof *all)]();
@@ -220,6 +291,10 @@ static void end_some_waits(void)
         SetEvent(program.events[i]);
     for (int i = 0; i < TIMERS && one_in(2); i++)
         set_timer_now(program.timers[i]);
+    for (int i = 0; i < VALUES && one_in(2); i++)
+        change_value(&program.values[i]);
+    for (int i = 0; i < VARIABLES && one_in(2); i++)
+        wake_all_on_variable(&program.variables[i]);
 }
 
 /* The first thread makes the objects and the others, and has no wait of its own last for good. */
@@ -234,12 +309,14 @@ static void *drive(void *unused)
         program.mutexes[i] = CreateMutex(NULL, FALSE, NULL);
     for (int i = 0; i < TIMERS; i++)
         program.timers[i] = CreateWaitableTimer(NULL, i & 1, NULL);
+    InitializeCriticalSection(&program.section);
     for (uint32_t left = below(5) + 1; left > 0; left--)
         begin_thread();
     for (uint32_t left = below(FOREIGN); left > 0; left--)
         add_strand(act_as_foreign, any_number_of_acts());
-    while (rest_till_all_sleep())
-        end_some_waits();
+    for (uint32_t rounds = 0; rest_till_all_sleep(); end_some_waits())
+        if (++rounds > MOST_ROUNDS)
+            broken("the waits do not end");
     end_process();
     return NULL;
 }

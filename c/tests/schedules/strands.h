@@ -15,6 +15,8 @@
 #define TURNS_THAT_PAY 3
 /* What a thread finds of its own is one variable, which is changed at each switch. */
 #define own OWN
+#define own_place (*place_of_strand(run.runs))
+#define PARKED_THREAD(word) strand_of_place(word)
 #include "step_names.h"
 #include "../../nt.h"
 /* (To open and close a dispatcher for 4,096 threads takes longer than most of these programs.) */
@@ -71,6 +73,7 @@ struct strand {
         uint32_t is_thread[PROTOCOLS]; /* which thread of each protocol it is, */
         uint32_t next_lock_thread;     /* and of the lock's is to be (plus one) */
         uint32_t returns_as;           /* what its next return is; 0 where that is one */
+        uint32_t address;              /* at which of those addresses it waits, or unparks others */
         bool has_missed;               /* its last step found that the lock no longer favours it */
         bool has_barred;               /* it has had the others pass a barrier */
         enum { OUT_OF_CALL, IN_CALL, IN_WAIT } stands; /* where it is, as the words' protocol has it */
@@ -125,6 +128,16 @@ static bool one_in(uint32_t count)
     return below(count) == 0;
 }
 
+/* ---- The place of each strand among those that wait at an address. */
+
+struct parked;
+static struct parked *place_of_strand(const struct strand *strand);
+
+enum { NO_STRAND = MOST_STRANDS };
+
+/* Whose word this is, or NO_STRAND. */
+static uint32_t strand_of_place(const volatile void *word);
+
 /* ---- What does not hold ends the test, with the trace to there. */
 
 static void write_trace(void);
@@ -146,13 +159,13 @@ __attribute__((format(printf, 1, 2), noreturn)) static void broken(const char *f
 /* ---- What a strand has stored last is late: others see it by chance, or once it makes a step, stores more, sleeps, or passes a barrier. */
 
 static void note_step(const volatile void *word);
-static void note_arrival(const volatile void *word, uint32_t value);
+static void note_arrival(struct strand *strand, const volatile void *word, uint32_t value);
 
 static void end_store(struct strand *strand)
 {
     if (strand != NULL && strand->late_word != NULL) {
         __atomic_store_n(strand->late_word, strand->late_value, __ATOMIC_SEQ_CST);
-        note_arrival(strand->late_word, strand->late_value);
+        note_arrival(strand, strand->late_word, strand->late_value);
     }
     if (strand != NULL)
         strand->late_word = NULL;

@@ -2,7 +2,7 @@
 #ifndef SYSTEM_H
 #define SYSTEM_H
 
-#include "trace.h"
+#include "writing.h"
 
 /* ---- The system, here. */
 
@@ -132,6 +132,7 @@ static int yield_strand(void)
 #define pthread_setspecific(key, value) keep_value(value)
 #define sched_yield() yield_strand()
 #define sysconf(name) 4L
+#define gettid() ((pid_t)(1 + (run.runs - run.strands)))
 #define abort() broken("what always holds does not")
 #undef __libc_single_threaded
 #define __libc_single_threaded false
@@ -142,16 +143,21 @@ static int yield_strand(void)
 #undef atomic_store_explicit
 #undef atomic_exchange_explicit
 #undef atomic_compare_exchange_strong_explicit
+#undef atomic_fetch_add_explicit
+#undef atomic_fetch_sub_explicit
+#undef atomic_thread_fence
 #if defined __clang__
 #define load_step(word) __c11_atomic_load(word, __ATOMIC_SEQ_CST)
 #define store_step(word, value) __c11_atomic_store(word, value, __ATOMIC_SEQ_CST)
 #define exchange_step(word, value) __c11_atomic_exchange(word, value, __ATOMIC_SEQ_CST)
 #define compare_step(word, seen, value) __c11_atomic_compare_exchange_strong(word, seen, value, __ATOMIC_SEQ_CST, __ATOMIC_SEQ_CST)
+#define add_step(word, value) __c11_atomic_fetch_add(word, value, __ATOMIC_SEQ_CST)
 #else
 #define load_step(word) __atomic_load_n(word, __ATOMIC_SEQ_CST)
 #define store_step(word, value) __atomic_store_n(word, value, __ATOMIC_SEQ_CST)
 #define exchange_step(word, value) __atomic_exchange_n(word, value, __ATOMIC_SEQ_CST)
 #define compare_step(word, seen, value) __atomic_compare_exchange_n(word, seen, value, false, __ATOMIC_SEQ_CST, __ATOMIC_SEQ_CST)
+#define add_step(word, value) __atomic_fetch_add(word, value, __ATOMIC_SEQ_CST)
 #endif
 #define own_late_word(word) (run.runs != NULL && (void *)run.runs->late_word == (void *)(word))
 #define atomic_load_explicit(word, order) (point(), own_late_word(word) ? end_store(run.runs) : (void)0, note_step(word), load_step(word))
@@ -170,5 +176,8 @@ static int yield_strand(void)
     })
 #define atomic_compare_exchange_strong_explicit(word, seen, value, one, other) \
     (point(), end_store(run.runs), note_step(word), compare_step(word, seen, value))
+#define atomic_fetch_add_explicit(word, value, order) (point(), end_store(run.runs), note_step(word), add_step(word, value))
+#define atomic_fetch_sub_explicit(word, value, order) (point(), end_store(run.runs), note_step(word), add_step(word, -(value)))
+#define atomic_thread_fence(order) (point(), end_store(run.runs))
 
 #endif

@@ -10,16 +10,18 @@ enum {
     THREADS_TOLD = SEATS_TOLD + MOST_STRANDS
 };
 
-static const int threads_told[PROTOCOLS] = { [lock_protocol] = THREADS_TOLD, [word_protocol] = SEATS_TOLD };
-static const char *const protocol_names[PROTOCOLS] = { [lock_protocol] = "lock", [word_protocol] = "word" };
+static const int threads_told[PROTOCOLS] = { [lock_protocol] = THREADS_TOLD, [word_protocol] = SEATS_TOLD, [park_protocol] = MOST_STRANDS };
+static const char *const protocol_names[PROTOCOLS] = { [lock_protocol] = "lock", [word_protocol] = "word", [park_protocol] = "park" };
 
 /* Each step of each protocol, as the trace names it. */
 #define LOCK_STEP_TEXT(name) [name] = "lock " #name,
 #define WORD_STEP_TEXT(name) [name] = "word " #name,
+#define PARK_STEP_TEXT(name) [name] = "park " #name,
 static const char *const step_names[PROTOCOLS][STEPS] = {
     [lock_protocol] = { LOCK_STEPS(LOCK_STEP_TEXT) LOCK_STEPS_OF_HANDLERS(LOCK_STEP_TEXT) LOCK_STEPS_ON_OTHERS(LOCK_STEP_TEXT)
                         LOCK_STEPS_ON_FAVOURED(LOCK_STEP_TEXT) },
     [word_protocol] = { WORD_STEPS(WORD_STEP_TEXT) WORD_STEPS_ON_OTHERS(WORD_STEP_TEXT) },
+    [park_protocol] = { PARK_STEPS(PARK_STEP_TEXT) PARK_STEPS_ON_OTHERS(PARK_STEP_TEXT) },
 };
 
 /* The trace, if one is asked for. */
@@ -28,7 +30,7 @@ static struct {
     struct told_step {
         enum protocol protocol;
         enum step step;
-        uint32_t thread, other;
+        uint32_t thread, other, address;
     } *steps;
     size_t count, room;
     unsigned long long counts[PROTOCOLS][STEPS];
@@ -43,8 +45,47 @@ static size_t put_step(enum protocol protocol, enum step step, uint32_t thread, 
         if (trace.steps == NULL)
             abort();
     }
-    trace.steps[trace.count] = (struct told_step){ protocol, step, thread, other };
+    trace.steps[trace.count] = (struct told_step){ .protocol = protocol, .step = step, .thread = thread, .other = other };
     return trace.count++;
+}
+
+/* The addresses at which strands wait, as the program has them. */
+static const volatile void *told_addresses[ADDRESSES];
+
+/* Which of them this is; ADDRESSES where it is none. */
+static uint32_t number_of_address(const volatile void *address)
+{
+    uint32_t number = 0;
+    while (number < ADDRESSES && told_addresses[number] != address)
+        number++;
+    return number;
+}
+
+/* The strand that runs waits at this address, or wakes those that do. */
+static void name_address(const volatile void *address)
+{
+    run.runs->tells.address = number_of_address(address);
+    if (run.runs->tells.address == ADDRESSES)
+        broken("a thread waits at an address that is not told");
+}
+
+/* Which thread of the protocol a strand is. */
+static uint32_t thread_told(const struct strand *strand, enum protocol protocol)
+{
+    return protocol == park_protocol ? (uint32_t)(strand - run.strands) : strand->tells.is_thread[protocol];
+}
+
+/* A step of this strand, as the protocol has it. */
+static struct told_step step_of(const struct strand *strand, enum protocol protocol, enum step step, uint32_t other)
+{
+    return (struct told_step){ protocol, step, thread_told(strand, protocol), other, strand->tells.address };
+}
+
+/* One more, in its place. */
+static void put_step_of(const struct strand *strand, enum protocol protocol, enum step step, uint32_t other)
+{
+    const size_t place = put_step(protocol, step, 0, 0);
+    trace.steps[place] = step_of(strand, protocol, step, other);
 }
 
 /* A step that has no name yet, which it may get. */
@@ -98,6 +139,8 @@ static void choose_lock_thread(enum step step)
 static enum step choose_step(enum protocol protocol, enum step step)
 {
     struct strand *me = run.runs;
+    if (protocol == park_protocol)
+        return step;
     if (protocol == lock_protocol) {
         choose_lock_thread(step);
         if (step == StepsOut && me->tells.has_missed)
@@ -161,22 +204,31 @@ static void name_step(enum protocol protocol, const volatile void *word, const u
     if (me == NULL)
         return;
     const enum step step = choose_step(protocol, (enum step)names[0]);
-    if (step == Grants || step == Calls)
+    if (protocol == word_protocol && (step == Grants || step == Calls))
         me->owes |= (uint64_t)names[2] << names[1];
     if (trace.file != NULL && step != NO_STEP) {
         const size_t place = word == NULL ? put_nameless() : last_step_on(word);
-        trace.steps[place] = (struct told_step){ protocol, step, me->tells.is_thread[protocol], other_of(step, names[1]) };
+        trace.steps[place] = step_of(me, protocol, step, other_of(step, names[1]));
     }
     if (protocol == lock_protocol)
         be_interrupted_after(step);
+    if (step == TakesToLook) /* (It looks at the value next, and that is a step that is not made here.) */
+        point();
 }
 
-/* A plain store arrives. */
-static void note_arrival(const volatile void *word, uint32_t value)
+/* A plain store of this strand arrives: it has entered or left, unparked another, or changed a value. */
+static void note_arrival(struct strand *strand, const volatile void *word, uint32_t value)
 {
     const uintptr_t at = (uintptr_t)word - (uintptr_t)&waiting.seats[0].inside;
-    if (trace.file != NULL && at % sizeof waiting.seats[0] == 0 && at / sizeof waiting.seats[0] < SEATS_TOLD)
+    if (trace.file == NULL)
+        return;
+    const uint32_t whose = strand_of_place(word), me = (uint32_t)(strand - run.strands);
+    if (at % sizeof waiting.seats[0] == 0 && at / sizeof waiting.seats[0] < SEATS_TOLD)
         put_step(lock_protocol, value != 0 ? SetArrives : ClearArrives, (uint32_t)(at / sizeof waiting.seats[0]), 0);
+    else if (whose != NO_STRAND && whose != me)
+        put_step_of(strand, park_protocol, Unparks, whose);
+    else if (whose == NO_STRAND && number_of_address(word) != ADDRESSES)
+        put_step_of(strand, park_protocol, Changes, value);
 }
 
 /* Another thread has passed a barrier: at its place, or now where none was needed or the system refused it. */
@@ -191,7 +243,7 @@ static void name_barrier(const uint32_t *names)
         return;
     const size_t place = me->tells.has_barred ? last_step_on(&process.has_barriers) : put_nameless();
     me->tells.has_barred = false;
-    trace.steps[place] = (struct told_step){ lock_protocol, (enum step)names[0], thread, names[1] };
+    trace.steps[place] = step_of(me, lock_protocol, (enum step)names[0], names[1]);
 }
 
 /* ---- What becomes of a sleep, and of a wake-up. */
@@ -211,7 +263,7 @@ static void tell_sleep(const volatile void *word, enum sleep_outcome outcome)
     if (trace.file == NULL || me->tells.to_sleep.word != word)
         return;
     const enum protocol protocol = me->tells.to_sleep.protocol;
-    put_step(protocol, (enum step)me->tells.to_sleep.names[outcome], me->tells.is_thread[protocol], me->tells.to_sleep.names[4]);
+    put_step_of(me, protocol, (enum step)me->tells.to_sleep.names[outcome], me->tells.to_sleep.names[4]);
     me->is_told_asleep = outcome == SLEPT;
     if (outcome == DID_NOT_SLEEP || outcome == WOKE_BY_ITSELF)
         me->tells.to_sleep.word = NULL;
@@ -249,7 +301,7 @@ static void name_wake(enum protocol protocol, const volatile void *word, const u
     me->tells.to_wake.word = word;
     memcpy(me->tells.to_wake.names, names, sizeof me->tells.to_wake.names);
     if (word == NULL && trace.file != NULL)
-        put_step(protocol, (enum step)names[1], me->tells.is_thread[protocol], 0);
+        put_step_of(me, protocol, (enum step)names[1], 0);
 }
 
 /* A wake-up of this thread, which slept or not. A handler of signals may have told it something more and woken it: then the call that the handler had
@@ -265,6 +317,15 @@ static void tell_wake_of(uint32_t thread, bool slept)
         put_step(word_protocol, Stirs, thread, 0);
 }
 
+/* The strand that runs wakes this one, which it has unparked. (It may have answered that, and sleep at another address: there it wakes for no reason.) */
+static void tell_wake_at_address(uint32_t unparked, bool slept)
+{
+    const struct strand *me = run.runs, *other = &run.strands[unparked];
+    put_step_of(me, park_protocol, Wakes, unparked);
+    if (slept && other->tells.address != me->tells.address)
+        put_step_of(other, park_protocol, Stirs, 0);
+}
+
 /* A wake-up on this word has woken that strand, or none. (Who pays and is not of its seat here wakes somebody who seems to wake by itself.) */
 static void tell_wake(const volatile void *word, struct strand *woken)
 {
@@ -277,67 +338,12 @@ static void tell_wake(const volatile void *word, struct strand *woken)
     const bool tells = woken != NULL && woken->is_told_asleep && (me->tells.to_wake.names[0] != PaysOne || thread < SEATS_TOLD);
     if (protocol == word_protocol)
         tell_wake_of(me->tells.to_wake.names[2], tells);
+    else if (protocol == park_protocol)
+        tell_wake_at_address(me->tells.to_wake.names[2], tells);
     else
         put_step(protocol, (enum step)me->tells.to_wake.names[tells ? 0 : 1], thread, tells ? woken->tells.is_thread[protocol] : 0);
     if (tells)
         woken->is_told_asleep = false;
-}
-
-/* ---- The trace is written once a run has ended, and how often each step was made once all have. */
-
-static void write_number(uint32_t number)
-{
-    char digits[10];
-    size_t at = sizeof digits;
-    do
-        digits[--at] = (char)('0' + number % 10);
-    while ((number /= 10) != 0);
-    putc_unlocked(' ', trace.file);
-    while (at < sizeof digits)
-        putc_unlocked(digits[at++], trace.file);
-}
-
-/* (Most of a run's time goes into this, and so no format is read.) */
-static void write_step(const struct told_step *told)
-{
-    for (const char *name = step_names[told->protocol][told->step]; *name != 0; name++)
-        putc_unlocked(*name, trace.file);
-    write_number(told->thread);
-    if (told->step > LAST_ALONE)
-        write_number(told->other);
-    putc_unlocked('\n', trace.file);
-}
-
-static void write_steps(enum protocol protocol)
-{
-    fprintf(trace.file, "opening %s %d\n", protocol_names[protocol], threads_told[protocol]);
-    for (size_t i = 0; i < trace.count; i++)
-        if (trace.steps[i].step != NO_STEP && trace.steps[i].protocol == protocol) {
-            trace.counts[protocol][trace.steps[i].step]++;
-            write_step(&trace.steps[i]);
-        }
-}
-
-static void write_trace(void)
-{
-    if (trace.file == NULL)
-        return;
-    for (int protocol = 0; protocol < PROTOCOLS; protocol++)
-        write_steps((enum protocol)protocol);
-    trace.count = 0;
-    fflush(trace.file);
-}
-
-/* How often each step was made. */
-static void tell_counts(void)
-{
-    if (trace.file == NULL)
-        return;
-    for (int protocol = 0; protocol < PROTOCOLS; protocol++)
-        for (int step = 0; step < STEPS; step++)
-            if (step_names[protocol][step] != NULL)
-                printf("%s %llu, ", step_names[protocol][step], trace.counts[protocol][step]);
-    printf("as the trace has them\n");
 }
 
 #endif

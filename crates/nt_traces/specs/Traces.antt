@@ -3,7 +3,12 @@ use Rattle.std.specs.Prelude.{◌≡◌, ◌⊎◌, ℕ, ◌+◌, nat_lt, if◌t
 use Rattle.std.specs.Bool.{MatchBool}
 use Rattle.std.specs.Str.{bytes_eq}
 use Rattle.nt_lines.specs.Words.{digits_number, words_of}
+use Rattle.nt_park_traces.specs.declared.park.ParkEvent.{ParkEvent}
+use Rattle.nt_park_traces.specs.declared.park.TheConstants.{MOST_PARKED}
+use Rattle.nt_park_traces.specs.ParkNames as ParkNames
+use Rattle.nt_park_traces.specs.ParkTrace as ParkTrace
 use Rattle.nt_protocols.specs.Lock as Lock
+use Rattle.nt_protocols.specs.Parking as Parking
 use Rattle.nt_protocols.specs.Word as Protocol
 use Rattle.nt_protocols.specs.Threads.{Step, when}
 use Rattle.nt_traces.specs.declared.entry.TheConstants.{MAX_THREADS}
@@ -57,7 +62,8 @@ abbrev pub opening_of : List (List ℕ) → Option Entry
 opening_of [] = None
 opening_of (protocol ∷ words) =
     if bytes_eq protocol (codes "lock") then option_map (λ n. Entry.LockOpens n) (opened_of (MAX_THREADS + 1) words)
-    else (if bytes_eq protocol (codes "word") then option_map (λ n. Entry.WordOpens n) (opened_of (MOST_SEATS + 1) words) else None)
+    else (if bytes_eq protocol (codes "word") then option_map (λ n. Entry.WordOpens n) (opened_of (MOST_SEATS + 1) words)
+    else (if bytes_eq protocol (codes "park") then option_map (λ n. Entry.ParkOpens n) (opened_of (MOST_PARKED + 1) words) else None))
 
 -- an event with this name, of these threads; or why there is none
 abbrev pub IsLockEvent : List ℕ → Option (ℕ × ℕ) → Option LockEvent → Type 0
@@ -76,6 +82,14 @@ abbrev pub SaysWordEvent : List (List ℕ) → Option WordEvent → Type 0
 SaysWordEvent [] said = said ≡ None
 SaysWordEvent (name ∷ words) said = IsWordEvent name (threads_of words) said
 
+abbrev pub IsParkEvent : List ℕ → Option (ℕ × ℕ) → Option ParkEvent → Type 0
+IsParkEvent name threads None = ParkNames.IsNoName name ⊎ (threads ≡ None)
+IsParkEvent name threads (Some e) = (ParkNames.kind_text e.kind ≡ name) × (threads ≡ Some (e.thread, e.other))
+
+abbrev pub SaysParkEvent : List (List ℕ) → Option ParkEvent → Type 0
+SaysParkEvent [] said = said ≡ None
+SaysParkEvent (name ∷ words) said = IsParkEvent name (threads_of words) said
+
 -- a line of these words says this, or nothing: a run begins; or its protocol's name, the event's, and its threads
 abbrev pub Says : List (List ℕ) → Option Entry → Type 0
 Says [] said = said ≡ None
@@ -83,7 +97,8 @@ Says (first ∷ words) said =
     MatchBool (bytes_eq first (codes "opening")) (said ≡ opening_of words)
     (MatchBool (bytes_eq first (codes "lock")) ((e : Option LockEvent) × SaysLockEvent words e × (said ≡ option_map (λ x. Entry.LockStep x) e))
     (MatchBool (bytes_eq first (codes "word")) ((e : Option WordEvent) × SaysWordEvent words e × (said ≡ option_map (λ x. Entry.WordStep x) e))
-    (said ≡ None)))
+    (MatchBool (bytes_eq first (codes "park")) ((e : Option ParkEvent) × SaysParkEvent words e × (said ≡ option_map (λ x. Entry.ParkStep x) e))
+    (said ≡ None))))
 
 -- ---- where a trace stands
 
@@ -93,10 +108,12 @@ pub record At : Type 0 where
   pub lock : Lock.State
   pub words : ℕ
   pub word : Protocol.State
+  pub parks : ℕ
+  pub park : Parking.State
 
 -- nothing was read
 abbrev pub start : At
-start = record { locks = 0; lock = Lock.opening; words = 0; word = Protocol.opening }
+start = record { locks = 0; lock = Lock.opening; words = 0; word = Protocol.opening; parks = 0; park = Parking.opening }
 
 abbrev pub at_of : Runs → At
 at_of r = record {
@@ -104,6 +121,8 @@ at_of r = record {
   lock = LockTrace.state_of r.lock;
   words = length r.word.seats.items;
   word = WordTrace.state_of r.word;
+  parks = ParkTrace.threads_of r.park;
+  park = ParkTrace.state_of r.park;
 }
 
 -- an event names threads that its run has, which has room for it
@@ -112,6 +131,8 @@ Fits at (Entry.LockOpens n) = Unit {0}
 Fits at (Entry.LockStep e) = LockTrace.IsWithin at.locks e × LockTrace.HasRoom at.lock e
 Fits at (Entry.WordOpens n) = Unit {0}
 Fits at (Entry.WordStep e) = WordTrace.IsWithin at.words e
+Fits at (Entry.ParkOpens n) = Unit {0}
+Fits at (Entry.ParkStep e) = ParkTrace.IsWithin at.parks e
 
 -- what a line says comes next: a run begins, or an event of the protocol
 abbrev pub step_of : At → Entry → Step At
@@ -121,6 +142,10 @@ step_of at (Entry.WordOpens n) = when (Unit {0}) (record at { words = n; word = 
 step_of at (Entry.WordStep e) =
     when (WordTrace.step at.word (WordTrace.event_of e.kind e.thread e.other)).may
     (record at { word = (WordTrace.step at.word (WordTrace.event_of e.kind e.thread e.other)).after })
+step_of at (Entry.ParkOpens n) = when (Unit {0}) (record at { parks = n; park = Parking.opening })
+step_of at (Entry.ParkStep e) =
+    when (ParkTrace.step at.park (ParkTrace.event_of e.kind e.thread e.other)).may
+    (record at { park = (ParkTrace.step at.park (ParkTrace.event_of e.kind e.thread e.other)).after })
 
 -- an entry was taken; or it can't come next, or names threads that its run has not
 abbrev pub Takes : At → Entry → At → Taken → Type 0

@@ -1,14 +1,15 @@
 //! What a line of a trace says: `opening lock N` begins a run of N threads, and `lock NAME T` or `lock NAME T U` is an event of it. So it is
-//! with `word`, of the words on which threads sleep.
+//! with `word`, of the words on which threads sleep, and `park`, of those that wait at an address.
 
 ghost use Rattle.std.specs.Prelude.{◌≡◌};
 ghost use Rattle.nt_lines.specs.Words.{words_of};
-ghost use Rattle.nt_traces.specs.Traces.{number_below, opened_of, opening_of, other_of, threads_of, Says, SaysLockEvent, SaysWordEvent};
+ghost use Rattle.nt_traces.specs.Traces.{number_below, opened_of, opening_of, other_of, threads_of, Says, SaysLockEvent, SaysParkEvent, SaysWordEvent};
 
 use crate::lock::LockEvent;
 use crate::lock_kinds::LockKind;
 use crate::word::{WordEvent, WordKind};
 use nt_lines::{first_word, number_of};
+use nt_park_traces::{ParkEvent, ParkKind};
 
 /// The most threads of a run of the lock.
 pub const MAX_THREADS: u64 = 1024;
@@ -16,11 +17,16 @@ pub const MAX_THREADS: u64 = 1024;
 /// The most threads of a run of the words.
 const MAX_SEATS: u64 = 64;
 
+/// The most threads of a run of parking.
+const MAX_PARKED: u64 = 64;
+
 const OPENING: &[u8] = b"opening";
 
 const LOCK: &[u8] = b"lock";
 
 const WORD: &[u8] = b"word";
+
+const PARK: &[u8] = b"park";
 
 /// What a line says: a run of a protocol begins, or an event of it.
 #[derive(Clone, Copy, Debug, PartialEq, Eq)]
@@ -29,6 +35,8 @@ pub enum Entry {
     LockStep(LockEvent),
     WordOpens(usize),
     WordStep(WordEvent),
+    ParkOpens(usize),
+    ParkStep(ParkEvent),
 }
 
 /// The word as a number below this one.
@@ -123,6 +131,26 @@ fn word_event_in(text: &[u8]) -> Option<WordEvent>
     }
 }
 
+/// An event of parking.
+fn park_event_in(text: &[u8]) -> Option<ParkEvent>
+    ensures { SaysParkEvent (words_of text.now) result }
+{
+    match first_word(text) {
+        Some((name, left)) => match ParkKind::of(name) {
+            Some(kind) => match threads_in(left) {
+                Some((thread, other)) => Some(ParkEvent {
+                    kind,
+                    thread,
+                    other,
+                }),
+                None => None,
+            },
+            None => None,
+        },
+        None => None,
+    }
+}
+
 /// A run begins.
 fn opening_in(text: &[u8]) -> Option<Entry>
     ensures { result ≡ opening_of (words_of text.now) }
@@ -137,6 +165,11 @@ fn opening_in(text: &[u8]) -> Option<Entry>
             } else if protocol == WORD {
                 match opened_in(left, MAX_SEATS + 1) {
                     Some(threads) => Some(Entry::WordOpens(threads)),
+                    None => None,
+                }
+            } else if protocol == PARK {
+                match opened_in(left, MAX_PARKED + 1) {
+                    Some(threads) => Some(Entry::ParkOpens(threads)),
                     None => None,
                 }
             } else {
@@ -163,6 +196,11 @@ pub(crate) fn entry_in(line: &[u8]) -> Option<Entry>
             } else if first == WORD {
                 match word_event_in(left) {
                     Some(event) => Some(Entry::WordStep(event)),
+                    None => None,
+                }
+            } else if first == PARK {
+                match park_event_in(left) {
+                    Some(event) => Some(Entry::ParkStep(event)),
                     None => None,
                 }
             } else {

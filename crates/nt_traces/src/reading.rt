@@ -11,6 +11,7 @@ use crate::lock::LockEvent;
 use crate::lock_run::LockRun;
 use crate::word::WordEvent;
 use crate::word_run::WordRun;
+use nt_park_traces::{ParkEvent, ParkRun};
 use std::alloc::{AllocError, Global};
 
 /// What a trace is found to be.
@@ -36,6 +37,7 @@ pub enum TraceFault {
 pub(crate) struct Runs {
     pub(crate) lock: LockRun,
     pub(crate) word: WordRun,
+    pub(crate) park: ParkRun,
 }
 
 /// What came of a line.
@@ -53,6 +55,7 @@ impl Runs {
         Ok(Runs {
             lock: LockRun::new(alloc, 0)?,
             word: WordRun::new(alloc, 0)?,
+            park: ParkRun::new(alloc, 0)?,
         })
     }
 
@@ -80,6 +83,18 @@ impl Runs {
         }
     }
 
+    fn take_park(&mut self, event: ParkEvent) -> Taken
+        ensures { Takes (at_of self.old) (Entry.ParkStep event) (at_of self.new) result }
+    {
+        if !self.park.has(event) {
+            Taken::NoEvent
+        } else if self.park.step(event) {
+            Taken::Step
+        } else {
+            Taken::NoStep
+        }
+    }
+
     /// Takes what a line says.
     fn take(&mut self, alloc: Global, entry: Entry) -> Result<Taken, AllocError>
         ensures { IfOk result (Takes (at_of self.old) entry (at_of self.new)) }
@@ -87,8 +102,10 @@ impl Runs {
         match entry {
             Entry::LockOpens(threads) => self.lock = LockRun::new(alloc, threads)?,
             Entry::WordOpens(threads) => self.word = WordRun::new(alloc, threads)?,
+            Entry::ParkOpens(threads) => self.park = ParkRun::new(alloc, threads)?,
             Entry::LockStep(event) => return Ok(self.take_lock(event)),
             Entry::WordStep(event) => return Ok(self.take_word(event)),
+            Entry::ParkStep(event) => return Ok(self.take_park(event)),
         }
         Ok(Taken::Step)
     }

@@ -1,0 +1,3 @@
+pub mod ParkCounts
+pub mod ParkKinds
+pub mod ParkSeats

@@ -1,0 +1,13 @@
+use Rattle.std.proofs.Common.{ℕ, Bool, false, get_or}
+use Rattle.nt_park_traces.specs.declared.park.ParkSeat.{ParkSeat}
+use Rattle.nt_park_traces.specs.ParkTrace.{outside, seat_of}
+use Rattle.nt_park_traces.proofs.ParkSeats.{set_is}
+use Rattle.nt_park_traces.proofs.park_run.ParkRun.set.Goals as goal
+
+pub returns-clause-seats : goal.returns-clause-seats
+returns-clause-seats c = set_is seat_of c.args.self.now.seats.items c.args.t c.args.seat outside c.requires
+
+pub returns-clause-owes : goal.returns-clause-owes
+returns-clause-owes c =
+    let owed : ParkSeat → ℕ → Bool = λ a u. get_or a.owes u false in
+    set_is owed c.args.self.now.seats.items c.args.t c.args.seat outside c.requires

@@ -1,0 +1,3 @@
+pub mod ParkMoves
+pub mod ParkNames
+pub mod ParkTrace
