@@ -143,6 +143,8 @@
 #if !defined STRANDS_H && !defined HAS_NO_SCHEDULER
 #include "schedule/run.c"
 
+#include "schedule/told.c"
+
 #include "schedule/turns.c"
 
 #include "schedule/sleep_sets.c"

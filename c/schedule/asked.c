@@ -10,15 +10,15 @@
  *
  * and then, each after a `;`: steps=N (in a run at the most), time=free (a deadline may come although threads could run), races=pass (a race is no
  * failure), minutes=M (no run begins later), seconds=S (that a thread may run without a step), out=FILE (the decisions of the run that fails),
- * trace=FILE (its steps), ends=FILE (how each run of a search ended, which goes on then), part=K,N (of a search one part of N), progress=FILE (how
- * far it is). */
+ * trace=FILE (its steps), turns=FILE (who goes on, in each run: told.c), ends=FILE (how each run of a search ended, which goes on then), part=K,N (of
+ * a search one part of N), progress=FILE (how far it is). */
 
 /* How many runs a search makes at the most where that is not said. */
 enum { MOST_EXPLORED = 100000, MOST_PARTS = 4096 };
 
 #define WHAT_CAN_STAND "random:SEED[,COUNT], pct:SEED,DEPTH[,COUNT], explore:BOUND[,COUNT], explore:all[,COUNT], " \
                        "explore:plain[,COUNT] or replay:FILE can stand there, " \
-                       "then ;steps=N ;time=free ;races=pass ;minutes=M ;seconds=S ;out=FILE ;trace=FILE ;ends=FILE"
+                       "then ;steps=N ;time=free ;races=pass ;minutes=M ;seconds=S ;out=FILE ;trace=FILE ;turns=FILE ;ends=FILE"
 
 /* Reads numbers with commas between them. Answers how many there are; 0 where it is not such a list, or one of more. */
 static uint32_t read_list(const char *text, uint64_t *numbers, uint32_t most)
@@ -120,6 +120,8 @@ static bool read_option(const char *option)
         return take_path(schedule.out, value);
     else if (length == 6 && strncmp(option, "trace=", length) == 0)
         return take_path(schedule.traced, value);
+    else if (length == 6 && strncmp(option, "turns=", length) == 0)
+        return take_path(schedule.turns_file, value);
     else if (length == 9 && strncmp(option, "progress=", length) == 0)
         return take_path(schedule.progress, value);
     else if (length == 5 && strncmp(option, "ends=", length) == 0)
@@ -202,6 +204,13 @@ __attribute__((noreturn)) static void make_runs(void)
     _exit(0);
 }
 
+static void open_turns(void)
+{
+    schedule.turns_told = open(schedule.turns_file, O_WRONLY | O_CREAT | O_TRUNC | O_APPEND | O_CLOEXEC, 0666);
+    if (schedule.turns_told < 0)
+        refuse("ntwin: NTWIN_SCHEDULE: %s: %s", schedule.turns_file, strerror(errno));
+}
+
 /* Once this returns, the process is a run. */
 __attribute__((noinline, cold)) static void begin_schedule(const char *asked)
 {
@@ -215,6 +224,8 @@ __attribute__((noinline, cold)) static void begin_schedule(const char *asked)
     schedule.made = reserve(MOST_SCHEDULED * sizeof(struct scheduled), MAP_PRIVATE);
     schedule.now = UINT64_C(1000) * MOMENTS_PER_SECOND;
     process.looks = process.has_barriers = false;
+    if (schedule.turns_file[0] != 0)
+        open_turns();
     tells_knots = is_scheduled = true;
     stand_in_for_all();
     made_by = looked_calls;

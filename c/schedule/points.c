@@ -69,6 +69,8 @@ static void jump(uint64_t deadline)
 /* The run ends here, and who waits for what is written. */
 __attribute__((noreturn)) static void end_waiting(enum verdict verdict)
 {
+    if (verdict == HANGS)
+        tell_turns("hangs\n");
     look_whether_all_fitted();
     end_run(verdict, text_of_waits());
 }
@@ -91,13 +93,13 @@ static struct scheduled *choose(enum point point)
         const uint32_t chosen = decide(point, usual, &stand);
         if (schedule.trace >= 0 && schedule.shared->steps >= schedule.trace_from)
             write_step(point, chosen);
+        if (chosen == THE_CLOCK)
+            jump(stand.deadline);
+        tell_of_turn(point, chosen, chosen != usual);
         if (chosen == NO_ONE && !is_last)
             end_waiting(HANGS);
-        if (chosen == NO_ONE)
-            return NULL;
         if (chosen != THE_CLOCK)
-            return schedule.threads[chosen];
-        jump(stand.deadline);
+            return chosen != NO_ONE ? schedule.threads[chosen] : NULL;
     }
 }
 
@@ -138,7 +140,9 @@ static void pass_step(enum point point)
     me->idles = point == AT_YIELD ? me->idles + 1 : 0;
     if (schedule.is_still && me->idles == 0)
         return;
-    schedule.now += (uint64_t)STEP_TAKES << (me->idles < MOST_DOUBLINGS ? me->idles : MOST_DOUBLINGS);
+    const uint64_t units = (uint64_t)STEP_TAKES << (me->idles < MOST_DOUBLINGS ? me->idles : MOST_DOUBLINGS);
+    schedule.now += units;
+    tell_turns("passes %llu\n", (unsigned long long)units);
 }
 
 /* The caller comes to a point for this object, or null, and may touch anything from there on or not. False where that is no point of the run. */
@@ -242,6 +246,7 @@ __attribute__((noinline, cold)) static void sleep_scheduled(const _Atomic uint32
         me->bits = bits;
         me->until = until != NULL ? in_moments(until) : NEVER;
         me->slept = ++schedule.sleeps;
+        tell_of_sleep(me);
         hand_on(AT_SLEEP);
         me->word = NULL;
         touch(word, true);
@@ -263,6 +268,7 @@ __attribute__((noinline, cold)) static int wake_scheduled(const void *word, int 
             if (it->state == IS_SLEEPING && it->word == word && (it->bits & bits) != 0 && (first == NULL || it->slept < first->slept))
                 first = it;
         }
+        tell_of_woken(word, first, bits == FUTEX_BITSET_MATCH_ANY);
         if (first == NULL)
             break;
         first->was_woken = true;
@@ -295,8 +301,7 @@ static struct scheduled *thread_in(uint32_t seat)
 /* It could not be made. */
 __attribute__((noinline, cold)) static void unschedule_thread(const struct seat *seat)
 {
-    thread_in(seat->number)->state = IS_OVER;
-    schedule.alive--;
+    end_thread(thread_in(seat->number));
 }
 
 /* The caller is that thread. (To begin is its first point, and what it calls then is none.) */
@@ -315,8 +320,7 @@ static void end_scheduled(void *round)
     char *next = (char *)round + 1;
     if (me == NULL || (next < ending_rounds + sizeof ending_rounds && pthread_setspecific(schedule.ending, next) == 0))
         return;
-    me->state = IS_OVER;
-    schedule.alive--;
+    end_thread(me);
     if (has_points())
         tell_before(me); /* (A sanitizer's runtime has left the thread by now, and knows joins itself.) */
     wake_scheduled(me, INT_MAX, FUTEX_BITSET_MATCH_ANY);

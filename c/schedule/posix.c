@@ -129,6 +129,7 @@ static bool sleep_in(const struct blocked *blocked, uint64_t until)
     me->slept = ++schedule.sleeps;
     me->blocked = blocked;
     me->was_woken = false;
+    tell_of_sleep(me);
     touch(blocked->object, true);
     hand_on(AT_SLEEP);
     touch(blocked->object, true);

@@ -34,8 +34,7 @@ static int hooked_pthread_create(pthread_t *thread, const pthread_attr_t *attrib
     if (error == 0) {
         it->thread = *thread;
     } else {
-        it->state = IS_OVER;
-        schedule.alive--;
+        end_thread(it);
         (real.free)(beginning);
     }
     come_to_object(NULL);

@@ -111,10 +111,12 @@ static struct {
     bool is_unsaid;               /* the step is a call of the dispatcher, which has not said what it touches */
     uint64_t now, sleeps, turns;
     uint64_t ended;               /* when the process began to end, by the system's clock; or 0 */
+    char turns_file[512];         /* to which it is written what a run does to its turns (told.c); or empty */
+    int turns_told;               /* that file, or less than 0 */
     int trace;                    /* a file of its steps, from this one on; or less than 0 */
     uint64_t trace_from;
     pthread_key_t ending;
-} schedule = { .most_steps = 200000, .most_seconds = 5, .until = NEVER, .trace = -1 };
+} schedule = { .most_steps = 200000, .most_seconds = 5, .until = NEVER, .turns_told = -1, .trace = -1 };
 
 static _Thread_local struct scheduled *me __attribute__((tls_model("initial-exec")));
 static _Thread_local bool is_beyond __attribute__((tls_model("initial-exec"))); /* it has ended, for the scheduler */

@@ -44,6 +44,7 @@ static void begin_run(void)
     list_wanted();
     if (pthread_key_create(&schedule.ending, end_scheduled) != 0)
         end_run_saying(ENDS_BADLY, "the scheduler gets no key\n");
+    tell_of_run();
     me = make_thread();
     me->thread = pthread_self();
     me->id = gettid();

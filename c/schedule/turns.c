@@ -25,6 +25,14 @@ static void number_thread(struct scheduled *it)
     schedule.threads[schedule.threads_count++] = it;
     schedule.shared->threads = schedule.threads_count;
     schedule.alive++;
+    tell_turns("comes\n");
+}
+
+static void end_thread(struct scheduled *it)
+{
+    it->state = IS_OVER;
+    schedule.alive--;
+    tell_turns("ends t%u\n", it->number);
 }
 
 static struct scheduled *make_thread(void)
@@ -118,13 +126,26 @@ static void let_go_on(struct scheduled *it)
 
 static bool has_come_for(const struct scheduled *it);
 
-/* Those whose deadline has come can go on, and those for whom has come what they wait for. */
+/* Those for whom has come what they wait for can go on. */
+static void look_outside(void)
+{
+    for (uint32_t i = 0; i < schedule.threads_count; i++) {
+        struct scheduled *it = schedule.threads[i];
+        if (it->state != IS_SLEEPING || it->until <= schedule.now || !has_come_for(it))
+            continue;
+        let_go_on(it);
+        tell_of_woken(NULL, it, false);
+    }
+}
+
+/* So can those whose deadline has come. */
 static struct stand look_round(void)
 {
     struct stand stand = { 0, NEVER };
+    look_outside();
     for (uint32_t i = 0; i < schedule.threads_count; i++) {
         struct scheduled *it = schedule.threads[i];
-        if (it->state == IS_SLEEPING && (it->until <= schedule.now || has_come_for(it)))
+        if (it->state == IS_SLEEPING && it->until <= schedule.now)
             let_go_on(it);
         if (it->state == IS_SLEEPING && it->until < stand.deadline)
             stand.deadline = it->until;
