@@ -324,6 +324,7 @@ static void end_scheduled(void *round)
     if (has_points())
         tell_before(me); /* (A sanitizer's runtime has left the thread by now, and knows joins itself.) */
     wake_scheduled(me, INT_MAX, FUTEX_BITSET_MATCH_ANY);
+    me->is_choosing = true;
     struct scheduled *after = choose(AT_END);
     is_beyond = true;
     if (after != NULL)
