@@ -1,12 +1,12 @@
 -- When deadlines come.
 use Rattle.std.proofs.Common.{◌≡◌, ◌≢◌, ◌⊎◌, inl, inr, ℕ, zero, suc, ◌<◌, ◌≤◌, max, Bool, true, false, length, refl, sym, ap, ◌∙◌, subst, Option, Some, None, arith}
-use Rattle.std.specs.Prelude.{is_some, if◌then◌else◌}
+use Rattle.std.specs.Prelude.{is_some, ◌==◌, if◌then◌else◌}
 use Rattle.std.proofs.lemmas.Bool.{cases_lt, leb-false}
 use Rattle.std.proofs.lemmas.List.{length-set, get_or-set_same, get_or-set_other}
 use Rattle.nt_schedule.specs.declared.standing.Standing.{Standing}
 use Rattle.nt_schedule.specs.declared.standing.Choice.{Choice}
 use Rattle.nt_schedule.specs.declared.standing.Asked.{Asked}
-use Rattle.nt_schedule.specs.Turns.{standing, until_of, has_come, is_due, deadline, choice_of, Moment, next_number, let_go_on, due_goes_on, looked_round, looked, jumped, goes_by}
+use Rattle.nt_schedule.specs.Turns.{standing, can_go_on, until_of, has_come, is_due, deadline, choice_of, Moment, next_number, let_go_on, waits_anew, due_goes_on, looked_round, looked, jumped, goes_by}
 use Rattle.nt_schedule.specs.Laws.{IsNextDeadline, TellsTime}
 use Rattle.nt_schedule.proofs.WhoGoesOn.{past, at_or_below, deadline_is, deadline_least, clock_means, clock_alone}
 
@@ -101,29 +101,44 @@ jumped_to m (Some moment) is some =
     let same : moment ≡ max (looked m).time moment = omega (arith, late) in
     subst (λ (x : ℕ). IsNextDeadline (looked m) x) same next
 
-comes_to : (m : Moment) (choice : Choice) → (choice ≡ Choice.Clock → is_some (deadline (length (looked m).threads) (looked m).threads) ≡ true) → choice ≡ Choice.Clock → IsNextDeadline (looked m) (goes_by choice (looked m)).time
-comes_to m (Choice.Thread t) some is = (cc)
-comes_to m Choice.Clock some is = jumped_to m (deadline (length (looked m).threads) (looked m).threads) refl (some refl)
-comes_to m Choice.Nobody some is = (cc)
+anew_time : (thread : ℕ) (m : Moment) → (waits_anew thread m).time ≡ m.time
+anew_time thread m = go (can_go_on (standing m.threads thread))
+  where
+    go : (b : Bool) → (if b then let_go_on m thread else m).time ≡ m.time
+    go true = refl
+    go false = refl
 
-stays_at : (m : Moment) (choice : Choice) → choice ≢ Choice.Clock → (goes_by choice (looked m)).time ≡ m.time
-stays_at m (Choice.Thread t) other = looked_time (length m.threads) m
-stays_at m Choice.Clock other = absurd (other refl)
-stays_at m Choice.Nobody other = looked_time (length m.threads) m
+-- where a thread goes on the time stays
+thread_time : (caller thread : ℕ) (m : Moment) → (goes_by caller (Choice.Thread thread) m).time ≡ m.time
+thread_time caller thread m = go (thread == caller)
+  where
+    go : (b : Bool) → (if b then m else waits_anew caller m).time ≡ m.time
+    go true = refl
+    go false = anew_time caller m
+
+comes_to : (m : Moment) (caller : ℕ) (choice : Choice) → (choice ≡ Choice.Clock → is_some (deadline (length (looked m).threads) (looked m).threads) ≡ true) → choice ≡ Choice.Clock → IsNextDeadline (looked m) (goes_by caller choice (looked m)).time
+comes_to m caller (Choice.Thread t) some is = (cc)
+comes_to m caller Choice.Clock some is = jumped_to m (deadline (length (looked m).threads) (looked m).threads) refl (some refl)
+comes_to m caller Choice.Nobody some is = (cc)
+
+stays_at : (m : Moment) (caller : ℕ) (choice : Choice) → choice ≢ Choice.Clock → (goes_by caller choice (looked m)).time ≡ m.time
+stays_at m caller (Choice.Thread t) other = thread_time caller t (looked m) ∙ looked_time (length m.threads) m
+stays_at m caller Choice.Clock other = absurd (other refl)
+stays_at m caller Choice.Nobody other = looked_time (length m.threads) m
 
 jumps_onward : (o : Option ℕ) (m : Moment) → m.time ≤ (jumped o m).time
 jumps_onward None m = omega arith
 jumps_onward (Some moment) m = omega arith
 
-goes_onward : (m : Moment) (choice : Choice) → m.time ≤ (goes_by choice (looked m)).time
-goes_onward m (Choice.Thread t) = let same = looked_time (length m.threads) m in omega (arith, same)
-goes_onward m Choice.Clock = let same = looked_time (length m.threads) m in let more = jumps_onward (deadline (length (looked m).threads) (looked m).threads) (looked m) in omega (arith, same, more)
-goes_onward m Choice.Nobody = let same = looked_time (length m.threads) m in omega (arith, same)
+goes_onward : (m : Moment) (caller : ℕ) (choice : Choice) → m.time ≤ (goes_by caller choice (looked m)).time
+goes_onward m caller (Choice.Thread t) = let same = thread_time caller t (looked m) ∙ looked_time (length m.threads) m in omega (arith, same)
+goes_onward m caller Choice.Clock = let same = looked_time (length m.threads) m in let more = jumps_onward (deadline (length (looked m).threads) (looked m).threads) (looked m) in omega (arith, same, more)
+goes_onward m caller Choice.Nobody = let same = looked_time (length m.threads) m in omega (arith, same)
 
-pub time_tells : (m : Moment) (asked : Asked) → TellsTime m asked (choice_of asked (looked m).threads) (goes_by (choice_of asked (looked m).threads) (looked m))
+pub time_tells : (m : Moment) (asked : Asked) → TellsTime m asked (choice_of asked (looked m).threads) (goes_by asked.caller (choice_of asked (looked m).threads) (looked m))
 time_tells m asked = record {
-  onward = goes_onward m (choice_of asked (looked m).threads);
-  stays = stays_at m (choice_of asked (looked m).threads);
-  comes = comes_to m (choice_of asked (looked m).threads) (clock_means asked (looked m).threads);
+  onward = goes_onward m asked.caller (choice_of asked (looked m).threads);
+  stays = stays_at m asked.caller (choice_of asked (looked m).threads);
+  comes = comes_to m asked.caller (choice_of asked (looked m).threads) (clock_means asked (looked m).threads);
   alone = clock_alone asked (looked m).threads;
 }

@@ -42,4 +42,4 @@ pub record TellsTime (old : Moment) (asked : Asked) (choice : Choice) (new : Mom
 abbrev pub TimeComesToDeadlines : Type 0
 TimeComesToDeadlines =
     (m : Moment) (asked : Asked)
-    → TellsTime m asked (choice_of asked (looked m).threads) (goes_by (choice_of asked (looked m).threads) (looked m))
+    → TellsTime m asked (choice_of asked (looked m).threads) (goes_by asked.caller (choice_of asked (looked m).threads) (looked m))

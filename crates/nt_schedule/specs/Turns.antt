@@ -1,11 +1,16 @@
 -- The threads of a run, who of them goes on, and the time.
 use Rattle.std.specs.Prelude.{ℕ, zero, suc, ◌+◌, ◌-◌, ◌^◌, min, max, nat_lt, nat_le, ◌==◌, ◌&&◌, Bool, true, false, List, [], ◌∷◌, ◌++◌, length, slice_index_or, slice_set, is_some, Option, None, Some, if◌then◌else◌}
+use Rattle.std.specs.Option.{option_map}
 use Rattle.nt_schedule.specs.declared.standing.Standing.{Standing}
 use Rattle.nt_schedule.specs.declared.standing.Point.{Point}
 use Rattle.nt_schedule.specs.declared.standing.Choice.{Choice}
 use Rattle.nt_schedule.specs.declared.standing.Asked.{Asked}
 use Rattle.nt_schedule.specs.declared.standing.Turn.{Turn}
 use Rattle.nt_schedule.specs.declared.turns.Turns.{Turns}
+use Rattle.nt_schedule.specs.declared.told.Told.{Told}
+use Rattle.nt_schedule.specs.declared.told.Turned.{Turned}
+use Rattle.nt_schedule.specs.declared.told.Differs.{Differs}
+use Rattle.nt_schedule.specs.declared.following.Run.{Run}
 
 -- ---- one thread
 
@@ -166,11 +171,15 @@ abbrev pub jumped : Option ℕ → Moment → Moment
 jumped None m = m
 jumped (Some moment) m = record m { time = max m.time moment }
 
--- what is chosen goes on: where that is the clock, the next deadline comes
-abbrev pub goes_by : Choice → Moment → Moment
-goes_by (Choice.Thread thread) m = m
-goes_by Choice.Clock m = jumped (deadline (length m.threads) m.threads) m
-goes_by Choice.Nobody m = m
+-- a thread that can go on, and does not, waits for its next turn from now on
+abbrev pub waits_anew : ℕ → Moment → Moment
+waits_anew thread m = if can_go_on (standing m.threads thread) then let_go_on m thread else m
+
+-- What is chosen goes on. Where that is another thread, the caller waits for its next turn; where it is the clock, the next deadline comes.
+abbrev pub goes_by : ℕ → Choice → Moment → Moment
+goes_by caller (Choice.Thread thread) m = if thread == caller then m else waits_anew caller m
+goes_by caller Choice.Clock m = jumped (deadline (length m.threads) m.threads) m
+goes_by caller Choice.Nobody m = m
 
 -- one thread more, which can go on
 abbrev pub come : Moment → Moment
@@ -191,8 +200,96 @@ goes_on_if (Some turn) m = let_go_on m turn.thread
 abbrev pub woken : ℕ → Moment → Moment
 woken word m = goes_on_if (sleeper (length m.threads) word m.threads) m
 
+abbrev pub sleeps : Standing → Bool
+sleeps (Standing.Ready since) = false
+sleeps (Standing.Asleep sleep) = true
+sleeps Standing.Ended = false
+
+-- what it sleeps for has come by another way than a call: it can go on
+abbrev pub roused : Moment → ℕ → Moment
+roused m thread = if sleeps (standing m.threads thread) then let_go_on m thread else m
+
 abbrev pub ended : Moment → ℕ → Moment
 ended m thread = put m thread Standing.Ended
 
 abbrev pub passed : ℕ → Moment → Moment
 passed units m = record m { time = min (m.time + units) (2 ^ 64 - 1) }
+
+-- ---- a run that is told
+
+-- the threads and the time, and whose turn it is, if it is anybody's
+pub record Course : Type 0 where
+  pub moment : Moment
+  pub turn : Option ℕ
+
+abbrev pub course_of : Run → Course
+course_of it = record { moment = moment_of it.turns; turn = it.turn }
+
+abbrev pub beginning : Course
+beginning = record { moment = opening; turn = Some 0 }
+
+abbrev pub is_turn_of : ℕ → Option ℕ → Bool
+is_turn_of thread None = false
+is_turn_of thread (Some who) = who == thread
+
+-- whose turn it is once that is chosen: where the clock goes on, the caller asks again
+abbrev pub turn_after : ℕ → Choice → Option ℕ
+turn_after caller (Choice.Thread thread) = Some thread
+turn_after caller Choice.Clock = Some caller
+turn_after caller Choice.Nobody = None
+
+abbrev pub chosen_in : Turned → Moment → Choice
+chosen_in it m = choice_of it.asked (looked m).threads
+
+abbrev pub moment_after : Turned → Moment → Moment
+moment_after it m = goes_by it.asked.caller (chosen_in it m) (looked m)
+
+-- how the run stands after what is told
+abbrev pub followed : Told → Course → Course
+followed Told.Comes c = record c { moment = come c.moment }
+followed (Told.Sleeps it) c = record c { moment = fallen_asleep c.moment it.thread it.word it.until }
+followed (Told.Wakes it) c = record c { moment = woken it.word c.moment }
+followed (Told.Rouses thread) c = record c { moment = roused c.moment thread }
+followed (Told.Ends thread) c = record c { moment = ended c.moment thread }
+followed (Told.Passes units) c = record c { moment = passed units c.moment }
+followed (Told.Turns it) c = record { moment = moment_after it c.moment; turn = turn_after it.asked.caller (chosen_in it c.moment) }
+followed Told.Hangs c = c
+
+abbrev pub is_same : Choice → Choice → Bool
+is_same (Choice.Thread a) (Choice.Thread b) = a == b
+is_same (Choice.Thread a) Choice.Clock = false
+is_same (Choice.Thread a) Choice.Nobody = false
+is_same Choice.Clock (Choice.Thread b) = false
+is_same Choice.Clock Choice.Clock = true
+is_same Choice.Clock Choice.Nobody = false
+is_same Choice.Nobody (Choice.Thread b) = false
+is_same Choice.Nobody Choice.Clock = false
+is_same Choice.Nobody Choice.Nobody = true
+
+abbrev pub is_same_thread : Option ℕ → Option ℕ → Bool
+is_same_thread None None = true
+is_same_thread None (Some b) = false
+is_same_thread (Some a) None = false
+is_same_thread (Some a) (Some b) = a == b
+
+-- how the machine goes otherwise where that was told: none, where it goes so
+abbrev pub turn_differs : ℕ → Course → Option Differs
+turn_differs thread c = if is_turn_of thread c.turn then None else Some (Differs.HasTurn c.turn)
+
+abbrev pub choice_differs : Turned → Moment → Option Differs
+choice_differs it m =
+    if is_same (chosen_in it m) it.choice then (if (moment_after it m).time == it.time then None else Some (Differs.IsAt (moment_after it m).time))
+    else Some (Differs.Chooses (chosen_in it m))
+
+abbrev pub sleeper_of : ℕ → Moment → Option ℕ
+sleeper_of word m = option_map thread_of (sleeper (length m.threads) word m.threads)
+
+abbrev pub differs : Told → Course → Option Differs
+differs Told.Comes c = None
+differs (Told.Sleeps it) c = turn_differs it.thread c
+differs (Told.Wakes it) c = if is_same_thread (sleeper_of it.word c.moment) it.thread then None else Some (Differs.Wakes (sleeper_of it.word c.moment))
+differs (Told.Rouses thread) c = None
+differs (Told.Ends thread) c = None
+differs (Told.Passes units) c = None
+differs (Told.Turns it) c = if is_turn_of it.asked.caller c.turn then choice_differs it c.moment else turn_differs it.asked.caller c
+differs Told.Hangs c = if is_same_thread c.turn None then None else Some (Differs.HasTurn c.turn)

@@ -4,6 +4,7 @@
 //!
 //! ```text
 //!    threads, the time --> who goes on: a thread, the clock, nobody      Turns::turn
+//!    a run that is told --> where it goes otherwise                      Run::follow
 //!    the path of a run --> what is asked of the next one                 next_branch
 //! ```
 //!
@@ -17,18 +18,22 @@
 //! | `hangs_exactly` | nobody is chosen exactly where no thread can go on and none has a deadline |
 //! | `each_path_once` | a search asks for each path within its bound once, in order, and leaves none out |
 //!
-//! `c/schedule` was written first, and nothing compares it with this machine yet. What the program does between its points is no part of it.
+//! `Run` follows what a run tells (`c/schedule/told.c`). What the program does between its points is no part of it.
 #![tactic(auto)]
 
 mod choosing;
+mod following;
 mod laws;
 mod search;
 mod standing;
+mod told;
 mod tree;
 mod turns;
 
+pub use following::Run;
 pub use laws::{hangs_exactly, time_comes_to_deadlines, who_is_chosen_can_go_on};
 pub use search::each_path_once;
 pub use standing::{Asked, Choice, Point, Sleep, Standing, Turn};
+pub use told::{Differs, Slept, Told, Turned, Woken};
 pub use tree::{Branch, Node, diverges, next_branch};
 pub use turns::Turns;

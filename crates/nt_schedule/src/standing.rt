@@ -1,7 +1,7 @@
 //! How a thread stands, and who goes on.
 
 ghost use Rattle.std.specs.Prelude.{◌≡◌};
-ghost use Rattle.nt_schedule.specs.Turns.{can_go_on, until_of, is_due, earlier, longest, turn_of, turn_but, sleep_on};
+ghost use Rattle.nt_schedule.specs.Turns.{can_go_on, sleeps, until_of, is_due, earlier, longest, turn_of, turn_but, sleep_on};
 
 /// A sleep: on a word, and to a moment or until another thread wakes it.
 #[derive(Clone, Copy, Debug, PartialEq, Eq)]
@@ -66,6 +66,16 @@ impl Standing {
         match self {
             Standing::Ready(_) => true,
             Standing::Asleep(_) => false,
+            Standing::Ended => false,
+        }
+    }
+
+    pub(crate) fn sleeps(self) -> bool
+        ensures { result ≡ sleeps self }
+    {
+        match self {
+            Standing::Ready(_) => false,
+            Standing::Asleep(_) => true,
             Standing::Ended => false,
         }
     }

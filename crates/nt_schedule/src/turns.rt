@@ -2,7 +2,7 @@
 
 ghost use Rattle.std.specs.Prelude.{◌≡◌, ◌<◌, length, IfOk, OnOk, OnErr};
 ghost use Rattle.std.specs.Option.{option_map};
-ghost use Rattle.nt_schedule.specs.Turns.{standing, can_go_on, deadline, waiting, sleeper, next_number, moment_of, put, let_go_on, due_goes_on, looked_round, looked, jumped, goes_by, choice_of, opening, come, fallen_asleep, woken, ended, passed, thread_of};
+ghost use Rattle.nt_schedule.specs.Turns.{standing, can_go_on, deadline, waiting, sleeper, next_number, moment_of, put, let_go_on, due_goes_on, looked_round, looked, jumped, goes_by, choice_of, opening, come, fallen_asleep, woken, waits_anew, sleeps, roused, ended, passed, thread_of};
 
 use crate::standing::{Asked, Choice, Sleep, Standing, Turn, earlier, longest};
 use std::alloc::{AllocError, Global};
@@ -131,11 +131,24 @@ impl Turns {
         }
     }
 
-    fn go(&mut self, choice: Choice)
-        ensures { moment_of self.new ≡ goes_by choice (moment_of self.old) }
+    /// If the thread can go on it waits for its next turn from now on.
+    fn wait_anew(&mut self, thread: usize)
+        ensures moment { moment_of self.new ≡ waits_anew thread (moment_of self.old) }
+    {
+        if self.can_go_on(thread) {
+            self.let_go_on(thread);
+        }
+    }
+
+    fn go(&mut self, caller: usize, choice: Choice)
+        ensures { moment_of self.new ≡ goes_by caller choice (moment_of self.old) }
     {
         match choice {
-            Choice::Thread(_) => {}
+            Choice::Thread(thread) => {
+                if thread != caller {
+                    self.wait_anew(caller);
+                }
+            }
             Choice::Clock => self.jump(),
             Choice::Nobody => {}
         }
@@ -143,14 +156,15 @@ impl Turns {
 
     /// A thread comes to a point. Answers who goes on, which is what is wanted there if that can be, and else what is usual.
     ///
-    /// Where the clock goes on the next deadline has come, and the thread asks once more.
+    /// Where another thread goes on the caller waits for its next turn. Where the clock does, the next deadline has come, and the caller asks once
+    /// more.
     pub fn turn(&mut self, asked: Asked) -> Choice
         ensures choice { result ≡ choice_of asked (looked (moment_of self.old)).threads }
-        ensures moment { moment_of self.new ≡ goes_by result (looked (moment_of self.old)) }
+        ensures moment { moment_of self.new ≡ goes_by asked.caller result (looked (moment_of self.old)) }
     {
         self.look_round();
         let choice = self.choose(asked);
-        self.go(choice);
+        self.go(asked.caller, choice);
         choice
     }
 
@@ -195,6 +209,15 @@ impl Turns {
                 Some(first.thread)
             }
             None => None,
+        }
+    }
+
+    /// What the thread sleeps for has come by another way than a call: it can go on, if it sleeps.
+    pub fn rouse(&mut self, thread: usize)
+        ensures { moment_of self.new ≡ roused (moment_of self.old) thread }
+    {
+        if thread < self.threads.len() && self.at(thread).sleeps() {
+            self.let_go_on(thread);
         }
     }
 
