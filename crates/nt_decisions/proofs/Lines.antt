@@ -7,7 +7,7 @@ use Rattle.std.proofs.lemmas.List.Sums.{prefix_len-le-length}
 use Rattle.std.proofs.lemmas.Bool.{ltb-false}
 use Rattle.nt_decisions.specs.declared.decision.Decision.{Decision}
 use Rattle.nt_decisions.specs.declared.file.FileFault.{FileFault}
-use Rattle.nt_decisions.specs.Decisions.{decision_text, lines_text, IsFault, is_end, entry_in, read_on, file_of, EndsLine}
+use Rattle.nt_decisions.specs.Decisions.{decision_text, lines_text, IsFault, IsLineFault, is_end, lines_in, entry_in, read_on, free_in, first_in, both, file_of, EndsLine}
 
 -- a text that ends without a line feed is read as with one
 end_same : (read : Option (List Decision)) (line : List ℕ) → read_on read (line ∷ []) ≡ read_on read (line ∷ [] ∷ [])
@@ -29,6 +29,7 @@ one_line (b ∷ bs) none = go (one_line bs) (is_end b) refl none
 
 pub ends_text : (text left : List ℕ) → position_or_len is_end text ≡ length text → left ≡ [] → EndsLine text text left
 ends_text text left none empty = record {
+  first = ap first_in (one_line text none);
   lines = λ read. ap (read_on read) (one_line text none) ∙ (end_same read text ∙ ap (λ (x : List ℕ). read_on read (text ∷ slice_split is_end x)) (sym empty));
   file = ap file_of (one_line text none) ∙ ap (λ (x : List ℕ). file_of (text ∷ slice_split is_end x)) (sym empty);
 }
@@ -37,7 +38,7 @@ pub ends_line : (text line left : List ℕ) → position_or_len is_end text < le
 ends_line text line left within first rest =
     let split = slice_split_first is_end text 0 within in
     let same : slice_split is_end text ≡ line ∷ slice_split is_end left = split ∙ (ap (λ (x : List ℕ). x ∷ slice_split is_end (after_first is_end text)) (sym first) ∙ ap (λ (x : List ℕ). line ∷ slice_split is_end x) (sym rest)) in
-    record { lines = λ read. ap (read_on read) same; file = ap file_of same }
+    record { first = ap first_in same; lines = λ read. ap (read_on read) same; file = ap file_of same }
 
 pub place_or_len : (text : List ℕ) → unwrap_or (position is_end text) (length text) ≡ position_or_len is_end text
 place_or_len text = go (nat_lt (position_or_len is_end text) (length text)) refl
@@ -63,10 +64,17 @@ taken_text text end place far most =
 
 -- ---- lines that are no decisions
 
-pub fault_on : (fault : FileFault) (read : Option (List Decision)) (lines : List (List ℕ)) → IsFault fault read → IsFault fault (read_on read lines)
-fault_on FileFault.FirstLine read lines none = ap (λ (x : Option (List Decision)). read_on x lines) none
+pub fault_on : (fault : FileFault) (read : Option (List Decision)) (lines : List (List ℕ)) → IsLineFault fault read → IsLineFault fault (read_on read lines)
+fault_on FileFault.FirstLine read lines none = none
 fault_on FileFault.Line read lines none = ap (λ (x : Option (List Decision)). read_on x lines) none
 fault_on FileFault.Memory read lines none = tt
+
+-- why the lines behind the first are no decisions is why the text is no file
+pub fault_in : (fault : FileFault) (text line left : List ℕ) (is_free : Bool) → EndsLine text line left → free_in line ≡ Some is_free → IsLineFault fault (read_on (Some []) (lines_in left)) → IsFault fault text
+fault_in FileFault.FirstLine text line left is_free ends first none = absurd none
+fault_in FileFault.Line text line left is_free ends first none =
+    (is_free, ends.first ∙ first, ends.file ∙ (ap (λ (x : Option Bool). both x (read_on (Some []) (lines_in left))) first ∙ ap (both (Some is_free)) none))
+fault_in FileFault.Memory text line left is_free ends first none = tt
 
 -- ---- lines that are written
 

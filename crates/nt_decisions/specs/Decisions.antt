@@ -107,14 +107,26 @@ file_in text = file_of (lines_in text)
 abbrev pub schedule_of : Schedule → Bool × List Decision
 schedule_of it = (it.is_free, it.decisions.items)
 
--- it is read as nothing, or memory was refused
-abbrev pub IsFault : {X : Type 0} → FileFault → Option X → Type 0
-IsFault FileFault.FirstLine read = read ≡ None
-IsFault FileFault.Line read = read ≡ None
-IsFault FileFault.Memory read = Unit {0}
+-- whether the time is free, by the first of these lines
+abbrev pub first_in : List (List ℕ) → Option Bool
+first_in [] = None
+first_in (line ∷ lines) = free_in line
+
+-- why lines are no decisions: one is none, or memory was refused
+abbrev pub IsLineFault : FileFault → Option (List Decision) → Type 0
+IsLineFault FileFault.FirstLine read = ⊥
+IsLineFault FileFault.Line read = read ≡ None
+IsLineFault FileFault.Memory read = Unit {0}
+
+-- why a text is no file: its first line is none of a file; or it is one, and another line is no decision; or memory was refused
+abbrev pub IsFault : FileFault → List ℕ → Type 0
+IsFault FileFault.FirstLine text = first_in (lines_in text) ≡ None
+IsFault FileFault.Line text = (is_free : Bool) × (first_in (lines_in text) ≡ Some is_free) × (file_in text ≡ None)
+IsFault FileFault.Memory text = Unit {0}
 
 -- the text is this line, a line feed and that text, or the line alone; it is read as with a line feed
 pub record EndsLine (text line left : List ℕ) : Type 0 where
+  pub first : first_in (lines_in text) ≡ free_in line
   pub lines : (read : Option (List Decision)) → read_on read (lines_in text) ≡ read_on read (line ∷ lines_in left)
   pub file : file_in text ≡ file_of (line ∷ lines_in left)
 

@@ -2,7 +2,7 @@
 
 ghost use Rattle.std.specs.Prelude.{◌≡◌, ◌<◌, ◌≤◌, length, position, MatchResult, OnOk, IfErr, IfSome, Some};
 ghost use Rattle.std.specs.List.{position_or_len};
-ghost use Rattle.nt_decisions.specs.Decisions.{is_end, lines_in, entry_in, read_on, free_in, file_in, schedule_of, IsFault, EndsLine};
+ghost use Rattle.nt_decisions.specs.Decisions.{is_end, lines_in, entry_in, read_on, free_in, file_in, schedule_of, IsFault, IsLineFault, EndsLine};
 
 use crate::decision::{Decision, read_decision};
 use std::alloc::{AllocError, Global};
@@ -75,7 +75,7 @@ fn split_line(text: &[u8]) -> (&[u8], &[u8])
 /// Takes a line.
 fn take_line(decisions: &mut Vec<Decision>, line: &[u8]) -> Result<(), FileFault>
     ensures ok { OnOk result (entry_in decisions.old.items line.now ≡ Some decisions.new.items) }
-    ensures fault { IfErr result (λ fault. IsFault fault (entry_in decisions.old.items line.now)) }
+    ensures fault { IfErr result (λ fault. IsLineFault fault (entry_in decisions.old.items line.now)) }
 {
     if line.is_empty() || line[0] == b';' {
         return Ok(());
@@ -92,7 +92,7 @@ fn take_line(decisions: &mut Vec<Decision>, line: &[u8]) -> Result<(), FileFault
 /// Takes each line.
 fn take_lines(decisions: &mut Vec<Decision>, text: &[u8]) -> Result<(), FileFault>
     ensures ok { OnOk result (read_on (Some decisions.old.items) (lines_in text.now) ≡ Some decisions.new.items) }
-    ensures fault { IfErr result (λ fault. IsFault fault (read_on (Some decisions.old.items) (lines_in text.now))) }
+    ensures fault { IfErr result (λ fault. IsLineFault fault (read_on (Some decisions.old.items) (lines_in text.now))) }
 {
     let mut left = text;
     while !left.is_empty() {
@@ -104,9 +104,10 @@ fn take_lines(decisions: &mut Vec<Decision>, text: &[u8]) -> Result<(), FileFaul
 }
 
 /// Reads a file of decisions.
+#[tactic(auto, using(crate::proofs::Lines::fault_in))]
 pub fn read_schedule(alloc: Global, text: &[u8]) -> Result<Schedule, FileFault>
     ensures { MatchResult result (λ schedule. file_in text.now ≡ Some (schedule_of schedule))
-        (λ fault. IsFault fault (file_in text.now)) }
+        (λ fault. IsFault fault text.now) }
 {
     if text.is_empty() {
         return Err(FileFault::FirstLine);
