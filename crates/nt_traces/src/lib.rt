@@ -7,6 +7,7 @@
 #![tactic(auto)]
 
 mod entry;
+mod law;
 mod lines;
 mod lock;
 mod lock_kinds;
@@ -21,6 +22,7 @@ mod word_run;
 mod word_steps;
 
 pub use entry::MAX_THREADS;
+pub use law::counts_tell_nothing;
 pub use lock::{Buffer, Frame, LockEvent, LockWord, Place, Seat};
 pub use lock_kinds::{
     ArrivingStep, FavouredStep, HandlingStep, LockKind, OwningStep, RevokingStep, SleepingStep,
@@ -30,4 +32,3 @@ pub use lock_run::LockRun;
 pub use reading::{TraceFault, Verdict, read_trace};
 pub use word::{MOST_SEATS, Word, WordEvent, WordKind, WordPlace, WordSeat};
 pub use word_run::WordRun;
-pub use word_steps::counts_tell_nothing;

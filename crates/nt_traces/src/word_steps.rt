@@ -4,7 +4,7 @@ ghost use Rattle.std.specs.Prelude.{◌≡◌, ◌<◌, ◌≤◌, ◌↔◌, Is
 ghost use Rattle.nt_protocols.specs.Word as Protocol;
 ghost use Rattle.nt_traces.specs.declared.word.TheConstants.{MOST_SEATS};
 ghost use Rattle.nt_traces.specs.WordMoves as Moves;
-ghost use Rattle.nt_traces.specs.WordTrace.{event_of, place_of, state_of, step, AsIfCounted, IsWithin, Reads};
+ghost use Rattle.nt_traces.specs.WordTrace.{event_of, place_of, state_of, step, IsWithin, Reads};
 
 use crate::word::WordPlace::{
     InCall, InWait, Outside, Passing, Sleeping, ToCompare, ToLoad, ToLookAtTime, ToSleep,
@@ -21,11 +21,6 @@ const OUTSIDE: WordSeat = WordSeat {
     due: false,
     owes: [false; MOST_SEATS],
 };
-
-/// A run is one of the protocol whether grants and answers are counted or not.
-pub fn counts_tell_nothing()
-    ensures { AsIfCounted }
-{}
 
 impl WordRun {
     /// None of these threads has called yet.
