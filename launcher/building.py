@@ -3,6 +3,7 @@ a time, and others wait for it and use what it built.
 """
 import contextlib
 import fcntl
+import functools
 import glob
 import os
 import shutil
@@ -249,6 +250,23 @@ def is_proved(built):
 def is_built(built):
     """Whether the program of these sources is there, proved or not."""
     return is_proved(built) or is_current(built.unproved, ("src", "specs"))
+
+
+@functools.cache
+def checker_of(built):
+    """The program, which reads what tests tell: the proved one where it is built, or where STRICT or ALL is set, as ./gate does; it is proved first
+    then. Else an unproved build."""
+    with alone():
+        if not is_proved(built) and (os.environ.get("STRICT") or os.environ.get("ALL")):
+            ran = subprocess.run([kit.find_rt(), "run"], cwd=built.crate, stdin=subprocess.DEVNULL, capture_output=True, text=True, check=False)
+            if ran.returncode:
+                raise NotBuilt(f"{ran.stdout}{ran.stderr}{built.name} could not be proved")
+            os.utime(built.proved)
+        elif not is_built(built):
+            kept, _, _, told = try_and_keep(built.crate, built.words, built.unproved, [])
+            if not kept:
+                raise NotBuilt("\n".join(told) or f"{built.name} could not be built")
+    return path_once_built(built)
 
 
 def path_once_built(built):

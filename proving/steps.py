@@ -259,5 +259,5 @@ def proved(tree, work, is_all):
         ("the examples", functools.partial(examples, tree), False),
         ("the launcher, and the worked scripts", command(tree, "tests/launcher"), False),
         ("random scripts and lives, a second way", command(tree, "tests/compare", *["--all"] * is_all), False),
-        ("the library for C programs", again(["nt_c", "ntrun", "ntlook", "ntrace"], ["bench"], *in_c), False),
+        ("the library for C programs", again(["nt_c", "ntrun", "ntlook", "ntrace", "nchoose"], ["bench"], *in_c), False),
     ]
