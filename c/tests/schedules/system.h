@@ -134,8 +134,7 @@ static int yield_strand(void)
 #define sysconf(name) 4L
 #define gettid() ((pid_t)(1 + (run.runs - run.strands)))
 #define abort() broken("what always holds does not")
-#undef __libc_single_threaded
-#define __libc_single_threaded false
+#undef TELLS_WHETHER_ALONE
 
 /* ---- Steps on a word, which is a number or a pointer. */
 
