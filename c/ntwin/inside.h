@@ -60,7 +60,7 @@
 #define STEP_OF(seat, protocol, word, ...) ((void)0)      /* the same, the first of what this seat's thread does */
 #define STEP_NEXT(seat) ((void)0)                         /* this seat's thread is to take the lock */
 #define STEP_AS(protocol, name, other) ((void)0)          /* the thread's next step of this name is that other one */
-#define STEP_BEYOND(protocol, ...) ((void)0)              /* another thread has passed a barrier */
+#define STEP_BEYOND(protocol, ...) ((void)0)              /* another thread has passed a barrier: no step if it is the same thread */
 #define STEP_ON(address, protocol, word, ...) ((void)0)   /* the same, the first of what the thread does for this address */
 #define TO_SLEEP(protocol, word, ...) ((void)0)           /* the names of what may become of the thread's next sleep on this word */
 #define TO_WAKE(protocol, word, ...) ((void)0)            /* and of its next wake-up: that it wakes one, or nobody */

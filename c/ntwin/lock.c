@@ -11,10 +11,11 @@
  * All others make the lock FREE, and wake one thread if it was WANTED.
  * To be favoured. Who has taken it `patience` times, with nobody else between, sets `inside` and makes it FAVOURS + n from TAKEN.
  *
- * Why no two have it. One thread at most has made the lock taken or wanted and not given it back, whether it has it or still revokes. The lock comes to
- * favour thread n by that one alone: by n while it has the lock, or by who has revoked and puts the favour back (`try_lock`). The barrier of who revokes
- * stands somewhere among the steps of thread n. If thread n found the favour before the barrier, it had set `inside` before that, too: who revokes sees
- * it, and waits. After the barrier, thread n finds that the lock does not favour it, until who revokes has the lock and gives it back, or puts it back.
+ * Why no two have it. One thread at most has made the lock TAKEN or WANTED, from FREE or from a favour, and not given it back since: it has the lock, or
+ * still revokes. (Who exchanges TAKEN for WANTED takes nothing by that.) The lock comes to favour thread n by that one alone: by n while it has the lock,
+ * or by who has revoked and puts the favour back (`try_lock`). The barrier of who revokes stands somewhere among the steps of thread n. If thread n found
+ * the favour before the barrier, it had set `inside` before that, too: who revokes sees it, and waits. After the barrier, thread n finds that the lock
+ * does not favour it, until who revokes has the lock and gives it back, or puts it back.
  * Why nobody sleeps in vain. Who sleeps on `inside` has revoked. If thread n clears `inside` before the barrier, who revokes sees that; if not, thread n
  * loads the lock after the barrier, and wakes who sleeps. If threads sleep on the lock while it is not WANTED, one of them was woken: it makes it
  * WANTED, be it FREE, TAKEN or FAVOURS + n. (`nt_protocols` has all this as laws of every run: its specs/Lock.antt names the functions below.)

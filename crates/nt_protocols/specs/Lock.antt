@@ -5,10 +5,13 @@
 -- has the favoured thread pass a barrier (the asymmetric barrier, membarrier(2)), and then waits until that one's `inside` is clear.
 --
 -- A step is one atomic operation, one system call, the arrival of one plain store, or one call or return of a handler. Memory is x86's. The plain
--- stores to `inside` wait in a store buffer of one place, which their thread alone sees, and arrive at any later moment. A locked instruction, and a
--- second plain store, wait until that place is empty (so `IsDrained` is in their guards, where C has an exchange, a compare-exchange, or a store
--- after a store). All else is one order over all words: an x86 load is an acquire and a locked instruction is sequentially consistent, whatever
--- weaker order C11 is asked for.
+-- stores to `inside` wait in a store buffer of one place, which their thread alone sees, and arrive at any later moment. A locked instruction (C's
+-- exchange or compare-exchange) waits until that place is empty, so `IsDrained` is in its guard. It is in a plain store's, too: x86 has room for more
+-- than one, but in C a locked instruction stands between any two. All else is one order over all words: an x86 load is an acquire and a locked
+-- instruction is sequentially consistent, whatever weaker order C11 is asked for.
+--
+-- Not in here: a process of one thread, which takes and gives back the lock by plain loads and stores (`is_alone`); a seat that another thread gets;
+-- a forked child. Tests have these (docs/PROVED.md).
 --
 -- futex_wait compares the word and sleeps in one step of the kernel, futex_wake wakes one sleeper if there is one. A sleeper may also return for no
 -- reason, or begin its call again once a handler has interrupted it. Of membarrier only the part of the favoured thread is a step: its buffer is
@@ -40,7 +43,7 @@ pub data Place : Type 0 where
   ToWakeRevoker : Place  -- `step_out`: the lock no longer favours it, and it is to wake who sleeps on its `inside`
   ToTake : Place  -- `take_in_a_step` and the looks of `wait_for_lock`: is to take the lock from free, or from whom it favours
   ToMark : Place  -- `wait_for_lock`: is to exchange the lock for wanted
-  ToPay : Place  -- `sleep_on_lock`: the lock was held; it is to wake who sleeps on its own `inside`
+  ToPay : Place  -- `sleep_on_lock`: the lock was held; it is to wake who sleeps on its own `inside`, as a handler may have interrupted it there
   ToSleep : Place  -- `sleep_on_lock`: is to call futex_wait on the lock
   Asleep : Place  -- in futex_wait on the lock
   ToBar : (n : ℕ) → (once : Bool) → Place  -- `take_from`, `try_lock`: has revoked n's favour, and is to have n pass a barrier
@@ -53,8 +56,8 @@ pub data Place : Type 0 where
   ToUnset : Place  -- `favour`: has it, found it wanted, and is to clear its `inside`
   ToWake : Place  -- `wake_who_wants_lock`: found the lock wanted as it gave it back, and is to wake one
 
--- where a thread was that a handler of signals has interrupted, which may call: its `inside` is clear, and `takes_lock` says no. (At any other place
--- the handler's call is refused, and is no step.)
+-- where a thread was that a handler of signals has interrupted, which may call: its `inside` is clear, and `takes_lock` says no. (A handler that comes
+-- while its thread is `Out` calls as the thread itself does. At all other places its call is refused, and is no step.)
 pub data Frame : Type 0 where
   AtStore : Frame
   AtReload : Frame
@@ -85,7 +88,9 @@ pub record State : Type 0 where
   pub lock : Lock
   pub seats : ℕ → Seat
 
--- what can happen, each with the thread t that does it: `step` says what each is
+-- what can happen, each with the thread t that does it: `step` says what each is. The system begins and ends handlers, and the processor lets a store
+-- arrive: these three have no line in C. The marks in C have these names, but StepsBack is marked StepsOut, whose exchange it shares, and `once` is
+-- a part of the name (PassesBarrierOnce, FindsOutsideOnce).
 pub data Event : Type 0 where
   SeesFavour StoresInside Enters MissesFavour StepsBack StepsOut KeepsFavour FindsRevoked WakesNoRevoker : (t : ℕ) → Event
   Asks TakesFree TriesFree : (t : ℕ) → Event
@@ -255,7 +260,7 @@ InsideTells =
 abbrev pub OneOwner : Type 0
 OneOwner = Keeps step opening (λ s. (t u : ℕ) → has (place_of s t) ≡ true → has (place_of s u) ≡ true → t ≡ u)
 
--- a thread that has made the lock taken or wanted and not given it back, whether it has it or still revokes
+-- a thread that has made the lock taken or wanted, from free or from a favour, and not given it back since: it has the lock, or still revokes
 abbrev pub claims : Place → Bool
 claims (ToBar n once) = true
 claims (ToLook n once) = true

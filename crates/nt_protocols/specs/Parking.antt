@@ -1,8 +1,13 @@
 -- Parking (c/win32/parking.c): any number of threads wait at an address whose value others change. Each sleeps by futex on a word of its own.
 --
 -- This is one list, with the threads that wait at one of its addresses. Its latch is a lock as in specs/Lock.antt that favours nobody. `count` is a
--- sum: each thread adds one and one is taken away for it, so it is 0 exactly while nobody `is_counted`. Who changes the value loads `count` after a
--- full fence, so its store has arrived. Who waits adds itself to `count` by a locked instruction, before it looks at the value under the latch.
+-- sum over all addresses of the list: each thread adds one and one is taken away for it, so it is 0 only if nobody here `is_counted`. Who changes the
+-- value loads `count` after a full fence, so its store has arrived. Who waits adds itself to `count` by a locked instruction, before it looks at the
+-- value under the latch.
+--
+-- A condition variable (c/win32/condition_variable.c) is parking at an address whose value is never compared: there `LooksSame` comes at once, and
+-- nothing is lost since who sleeps is counted before it lets the lock go, which the caller of a wake has had since. So no fence stands before the
+-- load of `count`. Handlers of signals are not in here: c/ntwin.h allows them no such call.
 use Rattle.std.specs.Prelude.{◌≡◌, ◌≢◌, ◌⊎◌, ℕ, ◌+◌, Bool, true, false, not, ◌&&◌, if◌then◌else◌}
 use Rattle.nt_protocols.specs.Threads.{put, Step, when, Keeps}
 
@@ -12,7 +17,7 @@ pub data Standing : Type 0 where
   Listed : Standing
   Taken : (t : ℕ) → Standing
 
--- where a thread is: `To..` says what it is to do next. `all`: it unparks all that wait, and not some
+-- where a thread is: `To..` says what it is to do next. `all`: it unparks all that wait at the address; else as many as it likes, or none
 pub data Place : Type 0 where
   Out : Place  -- in no call, or before its call has counted itself
   ToTake : (next : Place) → Place  -- `take_latch`: is to take the latch, and then to be there
@@ -43,7 +48,9 @@ pub record State : Type 0 where
   pub seats : ℕ → Seat
   pub owes : ℕ → ℕ → Bool
 
--- what can happen, each with the thread t that does it: `step` says what each is
+-- what can happen, each with the thread t that does it: `step` says what each is. The user's program makes Changes and Calls. The marks in C have
+-- these names, with what follows a latch in them (TakesToLook, GivesToSleep ..) and `All`. Two mark what is two steps: SeesUnparked is FallsAsleep
+-- and Reads of a thread that did not sleep, and FinishesAndGives is Finishes and GivesLatch.
 pub data Event : Type 0 where
   Counts : (t : ℕ) → (expected : ℕ) → Event
   TakesLatch GivesLatch : (t : ℕ) → (next : Place) → Event
@@ -78,11 +85,12 @@ is_waking (ToGive Waking) = true
 is_waking Waking = true
 is_waking _ = false
 
--- futex_wait sleeps if the word still says parked; and who sleeps stops
+-- futex_wait sleeps if the word still says parked
 abbrev pub dozed : Bool → Place
 dozed true = Asleep
 dozed false = ToLoad
 
+-- where a thread is that somebody wakes: back from futex_wait if it was there
 abbrev pub woken : Place → Place
 woken Asleep = ToLoad
 woken p = p
@@ -128,8 +136,8 @@ step s (Reads t) = when (IsAt s t ToLoad) (becomes s t (read (s.seats t) (s.seat
 step s (TimesOut t) = when (IsAt s t ToSleep) (goes s t (ToTake ToLeave))  -- its moment has come
 step s (Leaves t) =  -- `is_unparked` under the latch, and `leave_parking` if it is not
     when (IsAt s t ToLeave) (becomes s t (read_again (s.seats t) (s.seats t).parked))
-step s (Changes t v) = when (IsAt s t Out) (record (goes s t (ToCheck true)) { value = v })  -- changes the value, and is to call WakeByAddressAll
-step s (Calls t) = when (IsAt s t Out) (goes s t (ToCheck false))  -- calls WakeByAddressSingle, or the same with nothing changed
+step s (Changes t v) = when (IsAt s t Out) (record (goes s t (ToCheck true)) { value = v })  -- changes the value; it is to call WakeByAddressAll next
+step s (Calls t) = when (IsAt s t Out) (goes s t (ToCheck false))  -- calls WakeByAddressSingle, and has changed nothing
 step s (SeesNobody t all) =  -- `wake_by_address`: loads `count`, which is 0
     when (IsAt s t (ToCheck all) × ((u : ℕ) → is_counted (s.seats u).standing (s.seats u).place ≡ false)) (goes s t Out)
 step s (SeesSome t all) = when (IsAt s t (ToCheck all)) (goes s t (ToTake (Unparking all)))  -- `wake_by_address`: loads `count`, which is not
@@ -168,7 +176,8 @@ unparks_all (ToTake (Unparking all)) = all
 unparks_all (Unparking all) = all
 unparks_all _ = false
 
--- no change is lost: while a thread stands in the list though the value is not the expected one, some thread is to unpark all
+-- no change is lost that WakeByAddressAll follows: while a thread stands in the list though the value is not the expected one, some thread is to
+-- unpark all
 abbrev pub NoChangeIsLost : Type 0
 NoChangeIsLost =
     Keeps step opening (λ s.

@@ -1,10 +1,12 @@
 -- The wake token (c/ntwin/waiting.c): the word by which a thread learns that its wait was granted, and on which it sleeps by futex. Any number of
 -- threads wait, tell others how their waits stand, and wake them.
 --
--- Who tells does so under the lock, by an exchange, and wakes after it has given the lock back those whose word said that they sleep. What is under
--- the lock is one step here, since no two threads have the lock (specs/Lock.antt). A thread's own plain stores to its word are under the lock too.
--- They have arrived before another thread has it, since it is given back by a locked instruction. futex_wait compares and sleeps in one step of the
--- kernel. The looks of `look` change nothing, and are no steps.
+-- Who tells does so under the lock, by an exchange, and then wakes those whose word said that they sleep: after it has given the lock back, but under
+-- it if there are too many to remember (`tell`) or its thread ends (`leave`). Each grant, each call and each half of a look at the time is one step:
+-- no two threads have the lock (specs/Lock.antt), and in here others' steps may come between these as they like. A thread's own plain stores to its
+-- word are under the lock too. They have arrived before another thread has it, since it is given back by a locked instruction. futex_wait compares
+-- and sleeps in one step of the kernel. The looks of `look` change nothing, and are no steps. What a handler of signals tells and wakes is a part of
+-- the call that it interrupts; one that calls while its own thread sleeps is not in here, but tested (c/tests/interrupted.c).
 use Rattle.std.specs.Prelude.{◌≡◌, ◌⊎◌, ℕ, ◌+◌, Bool, true, false, not, ◌&&◌, ◌||◌, if◌then◌else◌}
 use Rattle.nt_protocols.specs.Threads.{put, Step, when, Keeps}
 
@@ -32,7 +34,7 @@ pub record Seat : Type 0 where
   pub word : Word
   pub place : Place
   pub pends : Bool  -- its wait pends, as the dispatcher has it
-  pub due : Bool  -- it was called to look at the time, and has not yet
+  pub due : Bool  -- it was called to look at the time, and has not looked since
   pub grants : ℕ  -- how many of its waits were granted so far
   pub answers : ℕ  -- how many of its waits it has answered so far
 
@@ -75,7 +77,7 @@ abbrev pub dozed : Word → Place
 dozed Asleep = Sleeping
 dozed _ = ToLoad
 
--- it stops to sleep where it does
+-- where a thread is that somebody wakes: back from futex_wait if it was there
 abbrev pub woken : Place → Place
 woken Sleeping = ToLoad
 woken p = p
@@ -89,7 +91,7 @@ abbrev pub in_time : Word → Word
 in_time Granted = Granted
 in_time _ = Awake
 
--- the same thread, at this place, which owes no look at the time
+-- the thread has now looked at the time, and is at this place
 abbrev pub looked : Seat → Place → Seat
 looked a p = record a { word = in_time a.word; place = p; due = false }
 
@@ -131,7 +133,7 @@ step s (FindsItLate t) = when (IsAt s t ToSleep) (goes s t ToLookAtTime)  -- `sl
 step s (Reads t) = when (IsAt s t ToLoad) (becomes s t (told (s.seats t) (s.seats t).word))  -- `sleep_to`: the load at the end of the loop
 step s (LooksAtTime t) =  -- `look_at_time`: has the lock, and its word says awake unless it was granted
     when (IsAt s t ToLookAtTime) (becomes s t (looked (s.seats t) Passing))
-step s (Rearms t) =  -- `look_at_time`: time has passed; the same again, and it has a moment to sleep to
+step s (Rearms t) =  -- `look_at_time`: time has passed, its word says awake unless it was granted, and it has a moment to sleep to
     when (IsAt s t Passing) (becomes s t (looked (s.seats t) InWait))
 step s (Grants t u) =  -- `wake_up`: t ends u's wait and tells u so
     when ((is_waking (s.seats t).place ≡ true) × ((s.seats u).pends ≡ true))
