@@ -49,8 +49,12 @@
 #if defined __has_include
 #if __has_include(<sys/single_threaded.h>)
 #include <sys/single_threaded.h>
-#pragma weak __libc_single_threaded /* (glibc before 2.32 lacks it) */
-#define TELLS_WHETHER_ALONE
+#ifdef NTWIN_FOR_OLDER_GLIBC /* (of which one before 2.32 lacks it: release/make) */
+#pragma weak __libc_single_threaded
+#define TELLS_WHETHER_ALONE (&__libc_single_threaded != NULL)
+#else
+#define TELLS_WHETHER_ALONE true
+#endif
 #endif
 #endif
 

@@ -28,7 +28,7 @@
 static inline bool is_alone(void)
 {
 #ifdef TELLS_WHETHER_ALONE
-    return &__libc_single_threaded != NULL && __libc_single_threaded;
+    return TELLS_WHETHER_ALONE && __libc_single_threaded;
 #else
     return false;
 #endif
