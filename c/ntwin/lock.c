@@ -109,6 +109,20 @@ static inline void set_takes_lock(struct seat *seat, bool takes)
     atomic_signal_fence(memory_order_seq_cst);
 }
 
+/* Has the calls of the caller's handlers of signals be refused, or no longer, where it has the lock and is in no call. Answers whether they were
+ * before. (Where it has no seat, its handler would take one.) */
+static bool set_refuses_handlers(bool refuses)
+{
+    struct seat *seat = own.seat;
+    const bool refused = seat != NULL ? takes_lock(seat) : own.joins;
+    if (seat == NULL)
+        own.joins = refuses;
+    else
+        set_takes_lock(seat, refuses);
+    atomic_signal_fence(memory_order_seq_cst);
+    return refused;
+}
+
 /* The lock favours the caller from now on, which has it, unless it is wanted. */
 __attribute__((noinline, cold)) static void favour(struct seat *seat)
 {
@@ -391,15 +405,31 @@ static bool try_lock(void)
     return false;
 }
 
-/* Takes the lock, where it is free within a tenth of a second. */
-static bool take_lock_at_last(void)
+/* Takes the lock, where the caller is in no call. Answers what is to be given back with it. */
+static bool take_lock_beside_calls(void)
+{
+    const bool refused = set_refuses_handlers(true);
+    take_lock();
+    return refused;
+}
+
+static void give_lock_beside_calls(bool refused)
+{
+    give_lock();
+    set_refuses_handlers(refused);
+}
+
+/* The same, where it is free within a tenth of a second. Answers whether it is. */
+static bool take_lock_at_last(bool *refused)
 {
     const struct timespec pause = { .tv_nsec = 1000000 };
     for (int i = 0; i < 100; i++) {
+        *refused = set_refuses_handlers(true);
         if (try_lock()) {
             comes_after(&waiting.lock);
             return true;
         }
+        set_refuses_handlers(*refused);
         nanosleep(&pause, NULL);
     }
     return false;

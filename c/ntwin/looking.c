@@ -38,9 +38,9 @@ static char *with_places(char *marked)
 
 static char *text_of_why(void)
 {
-    take_lock();
+    const bool refused = take_lock_beside_calls();
     char *marked = text_written_by(write_why, NULL);
-    give_lock();
+    give_lock_beside_calls(refused);
     return with_places(marked);
 }
 
@@ -258,13 +258,14 @@ static void stop_looking(void)
 /* After all else: what was asked for by SIGQUIT is written to its end, and the journal's file ends where it does. */
 __attribute__((destructor(101))) static void end_looking(void)
 {
+    bool refused;
     if (take_turn_at_last())
         pthread_mutex_unlock(&telling_thread.turn);
-    if (journal.text == NULL || !take_lock_at_last())
+    if (journal.text == NULL || !take_lock_at_last(&refused))
         return;
     if (journal.text != NULL)
         close_journal();
-    give_lock();
+    give_lock_beside_calls(refused);
 }
 
 __attribute__((constructor(101))) static void read_environment(void)

@@ -353,11 +353,11 @@ __attribute__((destructor)) static void end_process(void)
     const uint64_t until = monotonic() + 2 * (uint64_t)MOMENTS_PER_SECOND;
     if (process.id != getpid() || (is_scheduled && !has_sanitizer()))
         return;
-    while (take_lock_at_last()) {
+    for (bool refused; take_lock_at_last(&refused);) {
         struct runner *runner = waiting.left;
         if (runner != NULL)
             waiting.left = runner->next;
-        give_lock();
+        give_lock_beside_calls(refused);
         const bool is_joined = runner != NULL && join_until(runner->thread, until);
         free(runner);
         if (!is_joined)

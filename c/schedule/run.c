@@ -162,9 +162,10 @@ static void write_decisions(const char *path);
 /* The run ends here, with the process. */
 __attribute__((noreturn)) static void end_run(enum verdict verdict, char *text)
 {
+    bool refused;
     schedule.shared->verdict = verdict;
     snprintf(schedule.shared->text, sizeof schedule.shared->text, "%s", text != NULL ? text : "");
-    if (journal.text != NULL && take_lock_at_last())
+    if (journal.text != NULL && take_lock_at_last(&refused))
         close_journal();
     if (ftrylockfile(stdout) == 0)
         fflush(stdout);

@@ -1,9 +1,18 @@
 /* A handler of signals sets an event, in each window of one instruction of a call of its own thread (step.h): either it does, or it is refused with
- * ERROR_POSSIBLE_DEADLOCK, since its thread has the lock or takes it. It never waits for what its own thread has. */
+ * ERROR_POSSIBLE_DEADLOCK, since its thread has the lock or takes it. It never waits for what its own thread has: so it is too where that tells why
+ * threads wait, or ends the process. */
 #define LOOKS_AT_LOCK 1
 #define LOOKS_AT_WORD 1
 #define WAITS_PER_TRY 4096
 #include "step.h"
+
+/* (Why threads wait is not written here: that would be some ten thousand instructions. The text is empty.) */
+struct report;
+static void write_why(struct report *to, const char *none)
+{
+    (void)to, (void)none;
+}
+#define write_why(...) __attribute__((unused)) write_it_all(__VA_ARGS__)
 
 #include "../ntwin.c"
 
@@ -107,6 +116,21 @@ static void wait_for_mine(void)
     must(WaitForSingleObject(mine, INFINITE) == WAIT_OBJECT_0);
 }
 
+/* Why threads wait is told under the lock; what comes after that is passed over. */
+static bool has_locked;
+
+static void tell_why(void)
+{
+    has_locked = false;
+    free(text_of_why());
+}
+
+static bool has_told(void)
+{
+    has_locked = has_locked || !lock_is(FREE);
+    return has_locked && lock_is(FREE);
+}
+
 /* ---- A signal wakes a thread that sleeps, and its handler sets what that waits for. */
 
 static void on_signal(int signal)
@@ -152,6 +176,11 @@ int main(void)
     interrupt("SetEvent", call_once, set_mine, nothing);
     interrupt("SetEvent, the first call of a thread", NULL, set_mine, nothing);
     interrupt("WaitForSingleObject", call_once, wait_for_mine, set_mine);
+    passes_over = has_told;
+    interrupt("ntwin_why", call_once, tell_why, nothing);
+    interrupt("ntwin_why, by a thread that has not called", NULL, tell_why, nothing);
+    passes_over = NULL;
+    interrupt("the end of the process", call_once, end_process, nothing);
     if (process.has_barriers) {
         interrupt("SetEvent, by the favoured thread", be_favoured, set_mine, nothing);
         passes_over = revokes;
