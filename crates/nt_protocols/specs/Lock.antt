@@ -1,17 +1,19 @@
 -- The lock that favours a thread (c/ntwin/lock.c): a biased lock, for any number of threads and their handlers of signals. While it favours nobody it
--- is the plain lock of three words on which threads sleep by futex.
+-- is the plain lock of one word with three values, on which threads sleep by futex.
 --
 -- The favoured thread takes it by a plain store to its `inside` and a load of the lock. Who wants it instead revokes the favour: it changes the lock,
 -- has the favoured thread pass a barrier (the asymmetric barrier, membarrier(2)), and then waits until that one's `inside` is clear.
 --
--- A step is one atomic operation, one system call, the arrival of one plain store, or one call or return of a handler. Memory is x86's. The plain
--- stores to `inside` wait in a store buffer of one place, which their thread alone sees, and arrive at any later moment. A locked instruction (C's
--- exchange or compare-exchange) waits until that place is empty, so `IsDrained` is in its guard. It is in a plain store's, too: x86 has room for more
--- than one, but in C a locked instruction stands between any two. All else is one order over all words: an x86 load is an acquire and a locked
--- instruction is sequentially consistent, whatever weaker order C11 is asked for.
+-- A step is one atomic operation, one system call, the arrival of one plain store, or one call or return of a handler. Loads whose answer changes
+-- nothing, and failed compare-exchanges of `take_as_seen`, are none; Asks and StopsLooking touch no word. Memory is x86's. The plain stores to
+-- `inside` wait in a store buffer of one place, which their thread alone sees, and arrive at any later moment. A locked instruction (C's exchange or
+-- compare-exchange) waits until that place is empty, so `IsDrained` is in its guard. It is in a plain store's, too: x86 has room for more than one,
+-- but in C a locked instruction stands between any two. All else is one order over all words: an x86 load is an acquire and a locked instruction is
+-- sequentially consistent, whatever weaker order C11 is asked for. That the compiler keeps the order of the lines is trusted.
 --
--- Not in here: a process of one thread, which takes and gives back the lock by plain loads and stores (`is_alone`); a seat that another thread gets;
--- a forked child. Tests have these (docs/PROVED.md).
+-- A thread that has no seat, or takes the lock by `take_lock` or `try_lock`, is one more thread here, which the lock never favours; without a seat
+-- PaysNobody is no call. Not in here, but tested (docs/PROVED.md): a process of one thread, which takes and gives back the lock by plain loads and
+-- stores (`is_alone`); a seat that another thread gets; a forked child; exit in a handler of signals.
 --
 -- futex_wait compares the word and sleeps in one step of the kernel, futex_wake wakes one sleeper if there is one. A sleeper may also return for no
 -- reason, or begin its call again once a handler has interrupted it. Of membarrier only the part of the favoured thread is a step: its buffer is
@@ -43,7 +45,7 @@ pub data Place : Type 0 where
   ToWakeRevoker : Place  -- `step_out`: the lock no longer favours it, and it is to wake who sleeps on its `inside`
   ToTake : Place  -- `take_in_a_step` and the looks of `wait_for_lock`: is to take the lock from free, or from whom it favours
   ToMark : Place  -- `wait_for_lock`: is to exchange the lock for wanted
-  ToPay : Place  -- `sleep_on_lock`: the lock was held; it is to wake who sleeps on its own `inside`, as a handler may have interrupted it there
+  ToPay : Place  -- `sleep_on_lock`: is to wake who sleeps on its own `inside`: this may be a handler, whose thread has yet to do so
   ToSleep : Place  -- `sleep_on_lock`: is to call futex_wait on the lock
   Asleep : Place  -- in futex_wait on the lock
   ToBar : (n : ℕ) → (once : Bool) → Place  -- `take_from`, `try_lock`: has revoked n's favour, and is to have n pass a barrier
@@ -56,8 +58,8 @@ pub data Place : Type 0 where
   ToUnset : Place  -- `favour`: has it, found it wanted, and is to clear its `inside`
   ToWake : Place  -- `wake_who_wants_lock`: found the lock wanted as it gave it back, and is to wake one
 
--- where a thread was that a handler of signals has interrupted, which may call: its `inside` is clear, and `takes_lock` says no. (A handler that comes
--- while its thread is `Out` calls as the thread itself does. At all other places its call is refused, and is no step.)
+-- where a thread was that a handler of signals has interrupted, which may call: its `inside` is clear, and `takes_lock` says no. (A handler that
+-- comes while its thread is `Out` calls as the thread itself does. At all other places its call is refused, and is no step.)
 pub data Frame : Type 0 where
   AtStore : Frame
   AtReload : Frame
@@ -183,7 +185,7 @@ step s (Revokes t n) =  -- `take_as_seen`: the compare-exchange from the favour 
     when (IsAt s t ToTake × IsDrained s t × (s.lock ≡ Favours n)) (makes s t Taken (revoking (n == t) n false))
 step s (TriesFavoured t n) =  -- the same in `try_lock`
     when (IsAt s t Out × IsDrained s t × (s.lock ≡ Favours n)) (makes s t Taken (revoking (n == t) n true))
-step s (StopsLooking t) = when (IsAt s t ToTake) (goes s t ToMark)  -- `wait_for_lock`: has looked often enough
+step s (StopsLooking t) = when (IsAt s t ToTake) (goes s t ToMark)  -- `wait_for_lock`: looks no longer, if it looked at all
 step s (MarksFree t) =  -- `wait_for_lock`: the exchange for wanted found the lock free
     when (IsAt s t ToMark × IsDrained s t × (s.lock ≡ Free)) (makes s t Wanted Owner)
 step s (MarksFavoured t n) =  -- the exchange for wanted found that it favours n
@@ -205,7 +207,7 @@ step s (FindsOutside t n once) =  -- loads n's `inside`, which is clear: t has t
     when (IsAt s t (ToLook n once) × ((s.seats n).inside ≡ false)) (goes s t Owner)
 step s (FindsInside t n) =  -- loads n's `inside`, which is set: t is to wait
     when (IsAt s t (ToLook n false) × ((s.seats n).inside ≡ true)) (goes s t (ToSleepOn n))
-step s (Declines t n) = when (IsAt s t (ToLook n true) × ((s.seats n).inside ≡ true)) (goes s t (ToPutBack n))  -- the same in `try_lock`
+step s (Declines t n) = when (IsAt s t (ToLook n true) × ((s.seats n).inside ≡ true)) (goes s t (ToPutBack n))  -- the same load in `try_lock`
 step s (FallsAsleepOn t n) =  -- `wait_until_outside`: futex_wait finds n inside, and sleeps
     when (IsAt s t (ToSleepOn n) × ((s.seats n).inside ≡ true)) (goes s t (AsleepOn n))
 step s (FindsLeft t n) = when (IsAt s t (ToSleepOn n) × ((s.seats n).inside ≡ false)) (goes s t (ToLook n false))  -- futex_wait finds n outside
@@ -282,13 +284,13 @@ OneClaimer =
 abbrev pub IsFavouring : State → ℕ → Type 0
 IsFavouring s n = (place_of s n ≡ ToFavour) ⊎ ((t : ℕ) × (place_of s t ≡ ToPutBack n))
 
--- a favour is only made by who has the lock, or put back by who has revoked it
+-- the lock comes to favour n only while n, which has it, is about to make it so, or a thread that has revoked n's favour is about to put it back
 abbrev pub FavoursAreMadeByClaimers : Type 0
 FavoursAreMadeByClaimers =
     Keeps step opening (λ s.
     (e : Event) → (step s e).may → (n : ℕ) → (step s e).after.lock ≡ Favours n → (s.lock ≡ Favours n) ⊎ IsFavouring s n)
 
--- a handler has interrupted its thread where that, as it goes on, wakes who sleeps on its `inside` before it sleeps
+-- a handler has interrupted its thread where that, as it goes on, looks at the lock or wakes who sleeps on its `inside` before it sleeps
 abbrev pub wakes_under : List Frame → Bool
 wakes_under [] = false
 wakes_under (AtReload ∷ fs) = true

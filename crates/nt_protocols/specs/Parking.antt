@@ -3,11 +3,14 @@
 -- This is one list, with the threads that wait at one of its addresses. Its latch is a lock as in specs/Lock.antt that favours nobody. `count` is a
 -- sum over all addresses of the list: each thread adds one and one is taken away for it, so it is 0 only if nobody here `is_counted`. Who changes the
 -- value loads `count` after a full fence, so its store has arrived. Who waits adds itself to `count` by a locked instruction, before it looks at the
--- value under the latch.
+-- value under the latch. Words are stored plainly, under the latch: these stores arrive before it is given back, by a locked instruction, and before
+-- futex_wake looks for who sleeps, which the kernel does after a full barrier.
 --
--- A condition variable (c/win32/condition_variable.c) is parking at an address whose value is never compared: there `LooksSame` comes at once, and
--- nothing is lost since who sleeps is counted before it lets the lock go, which the caller of a wake has had since. So no fence stands before the
--- load of `count`. Handlers of signals are not in here: c/ntwin.h allows them no such call.
+-- A condition variable (c/win32/condition_variable.c) is parking at an address whose value is never compared: there `LooksSame` comes at once. Who
+-- sleeps is counted before it lets its lock go. Who has had that lock since, and wakes, sees it counted: no fence stands before the load of `count`.
+--
+-- Not in here: that WakeByAddressSingle unparks one, and the first that came; a value that is changed before that call; a forked child; handlers of
+-- signals, which c/ntwin.h allows no such call.
 use Rattle.std.specs.Prelude.{◌≡◌, ◌≢◌, ◌⊎◌, ℕ, ◌+◌, Bool, true, false, not, ◌&&◌, if◌then◌else◌}
 use Rattle.nt_protocols.specs.Threads.{put, Step, when, Keeps}
 
@@ -50,7 +53,7 @@ pub record State : Type 0 where
 
 -- what can happen, each with the thread t that does it: `step` says what each is. The user's program makes Changes and Calls. The marks in C have
 -- these names, with what follows a latch in them (TakesToLook, GivesToSleep ..) and `All`. Two mark what is two steps: SeesUnparked is FallsAsleep
--- and Reads of a thread that did not sleep, and FinishesAndGives is Finishes and GivesLatch.
+-- and Reads of a thread that did not sleep, and FinishesAndGives is Finishes and GivesLatch. Unparks has none: a trace has it as its store arrives.
 pub data Event : Type 0 where
   Counts : (t : ℕ) → (expected : ℕ) → Event
   TakesLatch GivesLatch : (t : ℕ) → (next : Place) → Event
@@ -132,21 +135,23 @@ step s (Parks t) =  -- `park`: joins the list, and its word says parked
 step s (FallsAsleep t) = when (IsAt s t ToSleep) (goes s t (dozed (s.seats t).parked))  -- `sleep_on`: futex_wait compares, and sleeps or returns
 step s (Stirs t) = when (IsAt s t Asleep) (goes s t ToLoad)  -- futex_wait returns though nobody woke it
 step s (Restarts t) = when (IsAt s t Asleep) (goes s t ToSleep)  -- a signal ends its sleep, and the system begins the call again
-step s (Reads t) = when (IsAt s t ToLoad) (becomes s t (read (s.seats t) (s.seats t).parked))  -- `is_unparked`
+step s (Reads t) =  -- `is_unparked`: loads its word, and answers or sleeps on
+    when (IsAt s t ToLoad) (becomes s t (read (s.seats t) (s.seats t).parked))
 step s (TimesOut t) = when (IsAt s t ToSleep) (goes s t (ToTake ToLeave))  -- its moment has come
 step s (Leaves t) =  -- `is_unparked` under the latch, and `leave_parking` if it is not
     when (IsAt s t ToLeave) (becomes s t (read_again (s.seats t) (s.seats t).parked))
-step s (Changes t v) = when (IsAt s t Out) (record (goes s t (ToCheck true)) { value = v })  -- changes the value; it is to call WakeByAddressAll next
-step s (Calls t) = when (IsAt s t Out) (goes s t (ToCheck false))  -- calls WakeByAddressSingle, and has changed nothing
+step s (Changes t v) =  -- changes the value, or leaves it as it was, and is to call WakeByAddressAll
+    when (IsAt s t Out) (record (goes s t (ToCheck true)) { value = v })
+step s (Calls t) = when (IsAt s t Out) (goes s t (ToCheck false))  -- calls WakeByAddressSingle
 step s (SeesNobody t all) =  -- `wake_by_address`: loads `count`, which is 0
     when (IsAt s t (ToCheck all) × ((u : ℕ) → is_counted (s.seats u).standing (s.seats u).place ≡ false)) (goes s t Out)
-step s (SeesSome t all) = when (IsAt s t (ToCheck all)) (goes s t (ToTake (Unparking all)))  -- `wake_by_address`: loads `count`, which is not
+step s (SeesSome t all) = when (IsAt s t (ToCheck all)) (goes s t (ToTake (Unparking all)))  -- `wake_by_address`: loads `count`, not 0
 step s (TakesOff t u all) =  -- `leave_parking`: takes u off the list
     when (IsAt s t (Unparking all) × ((s.seats u).standing ≡ Listed)) (becomes s u (record (s.seats u) { standing = Taken t }))
 step s (Unparks t u) =  -- `unpark`: stores that u is unparked
     when ((s.seats u).standing ≡ Taken t)
     (owing (becomes s u (record (s.seats u) { parked = false; standing = Absent; unparks = (s.seats u).unparks + 1 })) t u true)
-step s (Finishes t all) =  -- `unpark`: takes nobody else off
+step s (Finishes t all) =  -- `unpark`: has unparked all whom it took off, and takes nobody else off
     when (IsAt s t (Unparking all) × ((u : ℕ) → ((s.seats u).standing ≢ Taken t) × (all ≡ true → (s.seats u).standing ≢ Listed)))
     (goes s t (ToGive Waking))
 step s (Wakes t u) = when (s.owes t u ≡ true) (owing (goes s u (woken (s.seats u).place)) t u false)  -- `wake_one` on u's word

@@ -2,15 +2,16 @@
 -- threads wait, tell others how their waits stand, and wake them.
 --
 -- Who tells does so under the lock, by an exchange, and then wakes those whose word said that they sleep: after it has given the lock back, but under
--- it if there are too many to remember (`tell`) or its thread ends (`leave`). Each grant, each call and each half of a look at the time is one step:
+-- it if there are too many to remember (`tell`) or its thread ends (`leave`). Each of Grants, Calls and the halves of a look at the time is one step:
 -- no two threads have the lock (specs/Lock.antt), and in here others' steps may come between these as they like. A thread's own plain stores to its
 -- word are under the lock too. They have arrived before another thread has it, since it is given back by a locked instruction. futex_wait compares
 -- and sleeps in one step of the kernel. The looks of `look` change nothing, and are no steps. What a handler of signals tells and wakes is a part of
--- the call that it interrupts; one that calls while its own thread sleeps is not in here, but tested (c/tests/interrupted.c).
+-- the call that it interrupts. Not in here, but tested: a handler that calls between TurnsToSleep and its thread's next look at the time or answer
+-- (c/tests/interrupted.c); a thread canceled in its wait, whose `leave` tells others; a seat that another thread gets; a forked child.
 use Rattle.std.specs.Prelude.{◌≡◌, ◌⊎◌, ℕ, ◌+◌, Bool, true, false, not, ◌&&◌, ◌||◌, if◌then◌else◌}
 use Rattle.nt_protocols.specs.Threads.{put, Step, when, Keeps}
 
--- what a thread's word says: it is awake; it sleeps, or is about to; it is to look at the time; its wait was granted
+-- what a thread's word says: it is awake; it sleeps, is about to, or is back from there; it is to look at the time; its wait was granted
 pub data Word : Type 0 where
   Awake : Word
   Asleep : Word
@@ -20,7 +21,7 @@ pub data Word : Type 0 where
 -- where a thread is: `To..` says what it is to do next
 pub data Place : Type 0 where
   Outside : Place  -- in no call
-  InCall : Place  -- in a call, with no wait of its own: under the lock, or waking those whom it told something
+  InCall : Place  -- in a call, with no wait of its own: under the lock, waking those whom it told something, or with its wait answered
   InWait : Place  -- the same, while its own wait pends
   ToCompare : Place  -- `sleep_to`: is to exchange its word from awake to asleep
   ToSleep : Place  -- `sleep_to`: its word says that it sleeps, and it is to call futex_wait
@@ -117,8 +118,8 @@ tells_one s t u a = record { seats = put s.seats u a; owes = tells s.owes t u (s
 
 -- each step: when it can come, and the state after it
 abbrev pub step : State → Event → Step State
-step s (Enters t) = when (IsAt s t Outside) (goes s t InCall)  -- it calls, and has the lock
-step s (Returns t) =  -- its call ends without a wait; it has woken all whom it was to wake
+step s (Enters t) = when (IsAt s t Outside) (goes s t InCall)  -- `lock`, `leave`: it calls, and has the lock
+step s (Returns t) =  -- its call ends, and no wait of its own pends; it has woken all whom it was to wake
     when (IsAt s t InCall × ((u : ℕ) → s.owes t u ≡ false)) (goes s t Outside)
 step s (Begins t) =  -- `fall_asleep`: its wait pends from now on
     when (IsAt s t InCall) (becomes s t (record (s.seats t) { word = Awake; place = InWait; pends = true; due = false }))
@@ -129,8 +130,8 @@ step s (Marks t) =  -- `sleep_to`: the compare-exchange from awake to asleep, do
 step s (FallsAsleep t) = when (IsAt s t ToSleep) (goes s t (dozed (s.seats t).word))  -- `sleep_on`: futex_wait compares, and sleeps or returns
 step s (Stirs t) = when (IsAt s t Sleeping) (goes s t ToLoad)  -- futex_wait returns though nobody woke it: a signal, its moment, or no reason
 step s (Restarts t) = when (IsAt s t Sleeping) (goes s t ToSleep)  -- a signal ends its sleep, and the system begins the call again
-step s (FindsItLate t) = when (IsAt s t ToSleep) (goes s t ToLookAtTime)  -- `sleep_to`: its moment has come before it slept
-step s (Reads t) = when (IsAt s t ToLoad) (becomes s t (told (s.seats t) (s.seats t).word))  -- `sleep_to`: the load at the end of the loop
+step s (FindsItLate t) = when (IsAt s t ToSleep) (goes s t ToLookAtTime)  -- `sleep_to`: its moment has come, before or after it slept
+step s (Reads t) = when (IsAt s t ToLoad) (becomes s t (told (s.seats t) (s.seats t).word))  -- `sleep_to`: loads its word, and does as `told` has it
 step s (LooksAtTime t) =  -- `look_at_time`: has the lock, and its word says awake unless it was granted
     when (IsAt s t ToLookAtTime) (becomes s t (looked (s.seats t) Passing))
 step s (Rearms t) =  -- `look_at_time`: time has passed, its word says awake unless it was granted, and it has a moment to sleep to
