@@ -1,7 +1,8 @@
 /* Stops a thread that a program starts before one instruction between its last look for a grant and its sleep, until the first thread has made the
- * call that grants it. Preloaded by tests/woken, which tells by WOKEN="THREAD PAUSE LOOKS PLACE" which thread that is, counted from 1, at which
+ * call that grants it. Preloaded by tests/woken, which tells by WOKEN="THREAD PAUSE LOOKS PLACE ANEW" which thread that is, counted from 1, at which
  * address after the program's entry it pauses after a look, how often it does, and where it stops: before the instruction of this number since then,
- * 0 being the last pause. To descriptor 9 goes where it stopped, or where it is about to sleep if that comes first: the last three of these numbers.
+ * 0 being the last pause. To descriptor 9 goes where it stopped, or where it is about to sleep if that comes first: PAUSE, LOOKS and PLACE of that.
+ * ANEW is 1 to plant a fault: a thread that stops where it is to sleep on a word then sleeps on what the word has become.
  *
  * The trap flag of x86-64 makes the processor tell of each instruction, by SIGTRAP. If the pause is known a breakpoint stands there, and the thread
  * is stepped from its last one on. No time is taken for enough: the first thread pauses until the other one has stopped, or is about to sleep; and
@@ -30,6 +31,7 @@ static const byte breakpoint = 0xCC; /* before the second byte of `pause`, which
 static struct {
     long pause;               /* where the thread pauses, or 0 */
     int thread, looks, place; /* which thread stops, and where */
+    int anew;                 /* whether the fault is planted */
     int started;              /* how many threads the program has started */
     routine *runs;            /* what the thread runs */
     pid_t first;              /* the system's number of the first thread */
@@ -105,6 +107,8 @@ static void on_trap(int signal, siginfo_t *info, void *context)
         let_the_first_call();
     else
         sem_post(&it.goes);
+    if (stops && sleeps && it.anew)
+        registers[REG_RDX] = *(const volatile unsigned int *)registers[REG_RDI];
 }
 
 static void *run_stepped(void *given)
@@ -151,7 +155,7 @@ int pthread_create(pthread_t *thread, const pthread_attr_t *attributes, routine 
 {
     int (*const create)(pthread_t *, const pthread_attr_t *, routine *, void *) = own("pthread_create");
     const char *words = getenv("WOKEN");
-    if (it.started++ == 0 && (words == NULL || sscanf(words, "%d %ld %d %d", &it.thread, &it.pause, &it.looks, &it.place) != 4))
+    if (it.started++ == 0 && (words == NULL || sscanf(words, "%d %ld %d %d %d", &it.thread, &it.pause, &it.looks, &it.place, &it.anew) != 5))
         abort();
     if (it.started != it.thread)
         return create(thread, attributes, runs, given);
