@@ -1,13 +1,11 @@
 -- A trace's list of threads that wait at an address as the protocol's functions of threads.
-use Rattle.std.proofs.Common.{◌≡◌, ◌≢◌, ℕ, zero, suc, Bool, true, false, ◌<◌, List, [], ◌∷◌, refl, ap, sym, ◌∙◌, length, get_or, inl, inr}
+use Rattle.std.proofs.Common.{◌≡◌, ℕ, zero, suc, Bool, true, false, ◌<◌, List, refl, ap, sym, ◌∙◌, length, get_or}
 use Rattle.std.specs.Prelude.{if◌then◌else◌, ◌==◌}
-use Rattle.std.proofs.lemmas.Grind.{get_or-set_at}
-use Rattle.std.proofs.lemmas.Bool.{eq-eqb, ne_eqb}
-use Rattle.std.proofs.lemmas.Bool.Decides.{eqb_tells}
 use Rattle.std.proofs.Math.Path.{fun_ext}
 use Rattle.std.proofs.Math.ListN.{replicate, set}
 use Rattle.nt_protocols.specs.Parking as Protocol
 use Rattle.nt_protocols.specs.Threads.{put}
+use Rattle.nt_protocols.proofs.Putting.{put_kept, set_is}
 use Rattle.nt_park_traces.specs.declared.park.ParkPlace.{ParkPlace}
 use Rattle.nt_park_traces.specs.declared.park.ParkSeat.{ParkSeat}
 use Rattle.nt_park_traces.specs.declared.park.Standing.{Standing}
@@ -70,34 +68,6 @@ same_standing d e h = sym (standing_is d) ∙ (ap standing_back h ∙ standing_i
 
 -- ---- one thread changes
 
-other_kept : {A : Type 0} (xs : List A) (t u : ℕ) (x d : A) → u ≢ t → get_or (set xs t x) u d ≡ get_or xs u d
-other_kept [] t u x d n = refl
-other_kept (y ∷ ys) zero zero x d n = absurd (n refl)
-other_kept (y ∷ ys) zero (suc u) x d n = refl
-other_kept (y ∷ ys) (suc t) zero x d n = refl
-other_kept (y ∷ ys) (suc t) (suc u) x d n = other_kept ys t u x d (λ e. n (ap suc e))
-
-put_here : {A : Type 0} (f : ℕ → A) (t u : ℕ) (x : A) → u ≡ t → put f t x u ≡ x
-put_here {A} f t u x e = ap (λ (b : Bool). if b then x else f u) (eq-eqb u t e)
-
-put_else : {A : Type 0} (f : ℕ → A) (t u : ℕ) (x : A) → u ≢ t → put f t x u ≡ f u
-put_else {A} f t u x n = ap (λ (b : Bool). if b then x else f u) (ne_eqb u t n)
-
--- one element changes, as a function of its place
-pub set_is : {A B : Type 0} (f : A → B) (xs : List A) (t : ℕ) (x d : A) → t < length xs
-    → (λ u. f (get_or (set xs t x) u d)) ≡ put (λ u. f (get_or xs u d)) t (f x)
-set_is f xs t x d h = fun_ext (λ u. elim (eqb_tells u t) [
-  | inl e ↦ ap f (get_or-set_at xs t u x d e.1 h) ∙ sym (put_here (λ v. f (get_or xs v d)) t u (f x) e.1)
-  | inr n ↦ ap f (other_kept xs t u x d n.1) ∙ sym (put_else (λ v. f (get_or xs v d)) t u (f x) n.1)
-])
-
--- nothing changes where what is put is there
-put_same : {A : Type 0} (f : ℕ → A) (t : ℕ) (x : A) → x ≡ f t → put f t x ≡ f
-put_same f t x e = fun_ext (λ u. elim (eqb_tells u t) [
-  | inl h ↦ put_here f t u x h.1 ∙ e ∙ ap f (sym h.1)
-  | inr n ↦ put_else f t u x n.1
-])
-
 uncounted_if : (b : Bool) (x y : Protocol.Seat) → uncounted_seat (if b then x else y) ≡ (if b then uncounted_seat x else uncounted_seat y)
 uncounted_if true x y = refl
 uncounted_if false x y = refl
@@ -128,11 +98,11 @@ state_is r value latch seats owes e g h k =
 pub owes_kept : (seats : List ParkSeat) (t : ℕ) (owes : List Bool) → owes ≡ (get_or seats t outside).owes
     → put (owes_of seats) t (λ u. get_or owes u false) ≡ owes_of seats
 owes_kept seats t owes e =
-    put_same {A = ℕ → Bool} (owes_of seats) t (λ u. get_or owes u false) (ap (λ (xs : List Bool). λ (u : ℕ). get_or xs u false) e)
+    put_kept {A = ℕ → Bool} (owes_of seats) t (λ u. get_or owes u false) (ap (λ (xs : List Bool). λ (u : ℕ). get_or xs u false) e)
 
 -- the same of what else there is of it
 pub seats_kept : (seats : List ParkSeat) (t : ℕ) (x : ParkSeat) → x ≡ get_or seats t outside → put (seats_of seats) t (seat_of x) ≡ seats_of seats
-seats_kept seats t x e = put_same {A = Protocol.Seat} (seats_of seats) t (seat_of x) (ap seat_of e)
+seats_kept seats t x e = put_kept {A = Protocol.Seat} (seats_of seats) t (seat_of x) (ap seat_of e)
 
 -- it owes u a wake-up, or does not, from now on
 pub owes_changed : (seats : List ParkSeat) (t u : ℕ) (owed : Bool) (x : ParkSeat) → x ≡ get_or seats t outside → u < length x.owes

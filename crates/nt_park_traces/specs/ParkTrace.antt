@@ -1,6 +1,6 @@
 -- What a trace of parking stands for: the same words as in nt_protocols' specs/Parking.antt, of a fixed number of threads. How often a thread was
 -- unparked, and has answered that, no step asks: so neither is counted here (`AsIfCounted` says that nothing is lost by it).
-use Rattle.std.specs.Prelude.{◌≡◌, ◌↔◌, IsTrue, IsFalse, ℕ, ◌<◌, Bool, true, false, List, [], length, get_or}
+use Rattle.std.specs.Prelude.{◌≡◌, ◌↔◌, IsTrue, IsFalse, ℕ, ◌<◌, Bool, false, List, [], length, get_or}
 use Rattle.nt_protocols.specs.Parking as Protocol
 use Rattle.nt_protocols.specs.Threads.{Step, when, Can}
 use Rattle.nt_park_traces.specs.declared.park.TheConstants.{MOST_PARKED}

@@ -4,7 +4,7 @@ ghost use Rattle.std.specs.Prelude.{◌≡◌, ◌<◌, ◌↔◌, IsTrue, IfOk,
 ghost use Rattle.nt_protocols.specs.Parking as Protocol;
 ghost use Rattle.nt_park_traces.specs.declared.park.TheConstants.{MOST_PARKED};
 ghost use Rattle.nt_park_traces.specs.ParkMoves as Moves;
-ghost use Rattle.nt_park_traces.specs.ParkTrace.{bare, event_of, place_of, state_of, step, threads_of, AsIfCounted, IsWithin, Reads};
+ghost use Rattle.nt_park_traces.specs.ParkTrace.{bare, event_of, place_of, state_of, step, threads_of, IsWithin, Reads};
 
 use crate::park::ParkPlace::{
     Asleep, GivesToGo, GivesToSleep, GivesToWake, Out, TakesToLeave, TakesToLook, TakesToUnpark,
@@ -22,11 +22,6 @@ const OUTSIDE: ParkSeat = ParkSeat {
     expected: 0,
     owes: [false; MOST_PARKED],
 };
-
-/// A run is one of the protocol whether unparks and answers are counted or not.
-pub fn counts_tell_nothing()
-    ensures { AsIfCounted }
-{}
 
 impl ParkRun {
     /// None of these threads has called yet.

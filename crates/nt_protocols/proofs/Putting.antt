@@ -1,8 +1,12 @@
 -- What one thread's change keeps.
-use Rattle.std.proofs.Common.{◌≡◌, ◌≢◌, ℕ, Bool, true, refl, sym, subst, ap, inl, inr, ◌⊎◌, List, [], ◌∷◌}
+use Rattle.std.proofs.Common.{◌≡◌, ◌≢◌, ℕ, Bool, true, ◌<◌, refl, sym, ◌∙◌, subst, ap, inl, inr, ◌⊎◌, List, [], ◌∷◌, length, get_or}
 use Rattle.std.specs.Prelude.{if◌then◌else◌}
 use Rattle.std.proofs.lemmas.Bool.{eq-eqb, ne_eqb}
 use Rattle.std.proofs.lemmas.Bool.Decides.{eqb_tells}
+use Rattle.std.proofs.lemmas.Grind.{get_or-set_at}
+use Rattle.std.proofs.lemmas.List.{get_or-set_other}
+use Rattle.std.proofs.Math.Path.{fun_ext}
+use Rattle.std.proofs.Math.ListN.{set}
 use Rattle.nt_protocols.specs.Threads.{put, Step, Can, after_all}
 
 pub put_same : {A : Type 0} (f : ℕ → A) (t : ℕ) (x : A) → put f t x t ≡ x
@@ -13,6 +17,21 @@ put_other {A} f t x u n = ap (λ (b : Bool). if b then x else f u) (ne_eqb u t n
 
 pub same_or_not : (u t : ℕ) → (u ≡ t) ⊎ (u ≢ t)
 same_or_not u t = elim (eqb_tells u t) [ inl e ↦ inl e.1 | inr n ↦ inr n.1 ]
+
+-- nothing changes where what is put is there
+pub put_kept : {A : Type 0} (f : ℕ → A) (t : ℕ) (x : A) → x ≡ f t → put f t x ≡ f
+put_kept f t x e = fun_ext (λ u. elim (same_or_not u t) [
+  | inl h ↦ ap (put f t x) h ∙ put_same f t x ∙ e ∙ ap f (sym h)
+  | inr n ↦ put_other f t x u n
+])
+
+-- one element of a list changes, as a function of its place
+pub set_is : {A B : Type 0} (f : A → B) (xs : List A) (t : ℕ) (x d : A) → t < length xs
+    → (λ u. f (get_or (set xs t x) u d)) ≡ put (λ u. f (get_or xs u d)) t (f x)
+set_is f xs t x d h = fun_ext (λ u. elim (same_or_not u t) [
+  | inl e ↦ ap f (get_or-set_at xs t u x d e h) ∙ sym (ap (put (λ v. f (get_or xs v d)) t (f x)) e ∙ put_same (λ v. f (get_or xs v d)) t (f x))
+  | inr n ↦ ap f (get_or-set_other xs t u x d n) ∙ sym (put_other (λ v. f (get_or xs v d)) t (f x) u n)
+])
 
 -- what holds of each thread still holds, if it holds of this one
 pub each_put : {A : Type 0} (P : ℕ → A → Type 0) (f : ℕ → A) (t : ℕ) (x : A) → P t x → ((u : ℕ) → u ≢ t → P u (f u)) → (u : ℕ) → P u (put f t x u)

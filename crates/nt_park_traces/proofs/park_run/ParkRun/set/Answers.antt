@@ -1,7 +1,7 @@
 use Rattle.std.proofs.Common.{ℕ, Bool, false, get_or}
+use Rattle.nt_protocols.proofs.Putting.{set_is}
 use Rattle.nt_park_traces.specs.declared.park.ParkSeat.{ParkSeat}
 use Rattle.nt_park_traces.specs.ParkTrace.{outside, seat_of}
-use Rattle.nt_park_traces.proofs.ParkSeats.{set_is}
 use Rattle.nt_park_traces.proofs.park_run.ParkRun.set.Goals as goal
 
 pub returns-clause-seats : goal.returns-clause-seats
