@@ -1,6 +1,4 @@
 pub mod Cutting
-pub mod LockKinds
-pub mod LockSeats
 pub mod Telling
 pub mod WordCounts
 pub mod WordKinds

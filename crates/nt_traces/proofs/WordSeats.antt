@@ -1,31 +1,14 @@
 -- A trace's list of threads that sleep on words as the protocol's functions of threads.
-use Rattle.std.proofs.Common.{◌≡◌, ℕ, zero, suc, Bool, true, false, ◌<◌, List, refl, ap, sym, ◌∙◌, length, get_or, inl, inr}
+use Rattle.std.proofs.Common.{◌≡◌, ℕ, zero, suc, Bool, true, false, ◌<◌, List, refl, ap, sym, ◌∙◌, length, get_or}
 use Rattle.std.specs.Prelude.{if◌then◌else◌, ◌==◌}
-use Rattle.std.proofs.lemmas.Grind.{get_or-set_at}
-use Rattle.std.proofs.lemmas.Bool.Decides.{eqb_tells}
 use Rattle.std.proofs.Math.Path.{fun_ext}
 use Rattle.std.proofs.Math.ListN.{replicate, set}
 use Rattle.nt_protocols.specs.Word as Protocol
 use Rattle.nt_protocols.specs.Threads.{put}
-use Rattle.nt_traces.proofs.LockSeats.{other_kept, put_here, put_else}
+use Rattle.nt_protocols.proofs.Putting.{put_kept, set_is}
 use Rattle.nt_traces.specs.declared.word.WordSeat.{WordSeat}
 use Rattle.nt_traces.specs.declared.word_run.WordRun.{WordRun}
 use Rattle.nt_traces.specs.WordTrace.{seat_of, outside, owes_of, owing, seats_of, state_of, uncounted, uncounted_seat}
-
--- one element changes, as a function of its place
-pub set_is : {A B : Type 0} (f : A → B) (xs : List A) (t : ℕ) (x d : A) → t < length xs
-    → (λ u. f (get_or (set xs t x) u d)) ≡ put (λ u. f (get_or xs u d)) t (f x)
-set_is f xs t x d h = fun_ext (λ u. elim (eqb_tells u t) [
-  | inl e ↦ ap f (get_or-set_at xs t u x d e.1 h) ∙ sym (put_here (λ v. f (get_or xs v d)) t u (f x) e.1)
-  | inr n ↦ ap f (other_kept xs t u x d n.1) ∙ sym (put_else (λ v. f (get_or xs v d)) t u (f x) n.1)
-])
-
--- nothing changes where what is put is there
-pub put_same : {A : Type 0} (f : ℕ → A) (t : ℕ) (x : A) → x ≡ f t → put f t x ≡ f
-put_same f t x e = fun_ext (λ u. elim (eqb_tells u t) [
-  | inl h ↦ put_here f t u x h.1 ∙ e ∙ ap f (sym h.1)
-  | inr n ↦ put_else f t u x n.1
-])
 
 uncounted_if : (b : Bool) (x y : Protocol.Seat) → uncounted_seat (if b then x else y) ≡ (if b then uncounted_seat x else uncounted_seat y)
 uncounted_if true x y = refl
@@ -63,11 +46,11 @@ state_is r seats owes e h =
 pub owes_kept : (seats : List WordSeat) (t : ℕ) (owes : List Bool) → owes ≡ (get_or seats t outside).owes
     → put (owes_of seats) t (λ u. get_or owes u false) ≡ owes_of seats
 owes_kept seats t owes e =
-    put_same {A = ℕ → Bool} (owes_of seats) t (λ u. get_or owes u false) (ap (λ (xs : List Bool). λ (u : ℕ). get_or xs u false) e)
+    put_kept {A = ℕ → Bool} (owes_of seats) t (λ u. get_or owes u false) (ap (λ (xs : List Bool). λ (u : ℕ). get_or xs u false) e)
 
 -- the same of what else there is of it
 pub seats_kept : (seats : List WordSeat) (t : ℕ) (x : WordSeat) → x ≡ get_or seats t outside → put (seats_of seats) t (seat_of x) ≡ seats_of seats
-seats_kept seats t x e = put_same {A = Protocol.Seat} (seats_of seats) t (seat_of x) (ap seat_of e)
+seats_kept seats t x e = put_kept {A = Protocol.Seat} (seats_of seats) t (seat_of x) (ap seat_of e)
 
 -- it owes u a wake-up, or does not, from now on
 pub owes_changed : (seats : List WordSeat) (t u : ℕ) (owed : Bool) (x : WordSeat) → x ≡ get_or seats t outside → u < length x.owes

@@ -13,15 +13,15 @@ use Rattle.nt_protocols.specs.Word as Protocol
 use Rattle.nt_protocols.specs.Threads.{Step, when}
 use Rattle.nt_traces.specs.declared.entry.TheConstants.{MAX_THREADS}
 use Rattle.nt_traces.specs.declared.entry.Entry.{Entry}
-use Rattle.nt_traces.specs.declared.lock.LockEvent.{LockEvent}
+use Rattle.nt_lock_traces.specs.declared.lock.LockEvent.{LockEvent}
 use Rattle.nt_traces.specs.declared.reading.Runs.{Runs}
 use Rattle.nt_traces.specs.declared.reading.Taken.{Taken}
 use Rattle.nt_traces.specs.declared.reading.TraceFault.{TraceFault}
 use Rattle.nt_traces.specs.declared.reading.Verdict.{Verdict}
 use Rattle.nt_traces.specs.declared.word.TheConstants.{MOST_SEATS}
 use Rattle.nt_traces.specs.declared.word.WordEvent.{WordEvent}
-use Rattle.nt_traces.specs.LockNames as LockNames
-use Rattle.nt_traces.specs.LockTrace as LockTrace
+use Rattle.nt_lock_traces.specs.LockNames as LockNames
+use Rattle.nt_lock_traces.specs.LockTrace as LockTrace
 use Rattle.nt_traces.specs.WordNames as WordNames
 use Rattle.nt_traces.specs.WordTrace as WordTrace
 

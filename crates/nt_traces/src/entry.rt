@@ -5,10 +5,9 @@ ghost use Rattle.std.specs.Prelude.{◌≡◌};
 ghost use Rattle.nt_lines.specs.Words.{words_of};
 ghost use Rattle.nt_traces.specs.Traces.{number_below, opened_of, opening_of, other_of, threads_of, Says, SaysLockEvent, SaysParkEvent, SaysWordEvent};
 
-use crate::lock::LockEvent;
-use crate::lock_kinds::LockKind;
 use crate::word::{WordEvent, WordKind};
 use nt_lines::{first_word, number_of};
+use nt_lock_traces::{LockEvent, LockKind};
 use nt_park_traces::{ParkEvent, ParkKind};
 
 /// The most threads of a run of the lock.

@@ -9,12 +9,6 @@
 mod entry;
 mod law;
 mod lines;
-mod lock;
-mod lock_kinds;
-mod lock_names;
-mod lock_run;
-mod lock_steps;
-mod lock_test;
 mod reading;
 mod word;
 mod word_names;
@@ -23,12 +17,6 @@ mod word_steps;
 
 pub use entry::MAX_THREADS;
 pub use law::counts_tell_nothing;
-pub use lock::{Buffer, Frame, LockEvent, LockWord, Place, Seat};
-pub use lock_kinds::{
-    ArrivingStep, FavouredStep, HandlingStep, LockKind, OwningStep, RevokingStep, SleepingStep,
-    TakingStep,
-};
-pub use lock_run::LockRun;
 pub use reading::{TraceFault, Verdict, read_trace};
 pub use word::{MOST_SEATS, Word, WordEvent, WordKind, WordPlace, WordSeat};
 pub use word_run::WordRun;

@@ -7,10 +7,9 @@ ghost use Rattle.nt_traces.specs.Traces.{at_of, start, IsTold, Takes, TakesLine}
 
 use crate::entry::{Entry, entry_in};
 use crate::lines::first_line;
-use crate::lock::LockEvent;
-use crate::lock_run::LockRun;
 use crate::word::WordEvent;
 use crate::word_run::WordRun;
+use nt_lock_traces::{LockEvent, LockRun};
 use nt_park_traces::{ParkEvent, ParkRun};
 use std::alloc::{AllocError, Global};
 

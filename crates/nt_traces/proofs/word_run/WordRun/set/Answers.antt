@@ -1,7 +1,7 @@
 use Rattle.std.proofs.Common.{ℕ, Bool, false, get_or}
+use Rattle.nt_protocols.proofs.Putting.{set_is}
 use Rattle.nt_traces.specs.declared.word.WordSeat.{WordSeat}
 use Rattle.nt_traces.specs.WordTrace.{outside, seat_of}
-use Rattle.nt_traces.proofs.WordSeats.{set_is}
 use Rattle.nt_traces.proofs.word_run.WordRun.set.Goals as goal
 
 pub returns-clause-seats : goal.returns-clause-seats

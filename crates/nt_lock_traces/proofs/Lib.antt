@@ -1,0 +1,2 @@
+pub mod LockKinds
+pub mod LockSeats

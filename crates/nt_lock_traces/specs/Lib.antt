@@ -1,0 +1,3 @@
+pub mod LockMoves
+pub mod LockNames
+pub mod LockTrace
