@@ -215,9 +215,9 @@ def told(folder):
     for wrote, status, is_right in (("one\n", 0, True), ("other\n", 0, False), ("", 0, False), ("one\n", 1, False)):
         write(f"{folder}/tree/ntrun", f"#!/bin/sh\necho one\nexit {status}\n", 0o755)
         yield (not steps.example(f"{folder}/tree", script, wrote)) == is_right
-    write(f"{folder}/tree/examples/a.transcript", "one\n")
-    write(f"{folder}/tree/examples/reports", f"$ {' '.join(why)}\nheld\n  $ 2\n$ {' '.join(why)}\n")
-    yield steps.runs_of(f"{folder}/tree") == [(script, "one\n"), (why, "held\n  $ 2\n"), (why, "")]
+    for held in ("", f"$ {' '.join(script)}\none\n"):
+        write(f"{folder}/tree/examples/reports", f"{held}$ {' '.join(why)}\nheld\n  $ 2\n")
+        yield steps.runs_of(f"{folder}/tree") == [(script, held and "one\n"), (why, "held\n  $ 2\n")]
     with open(os.devnull, "w", encoding="utf-8") as nowhere, unittest.mock.patch.object(telling, "Progress", functools.partial(Progress, out=nowhere)):
         write(f"{folder}/{telling.LEAST}", "a scene: 3\n")
         for words in ["echo 3 passed, 0 failed", *NO_STEPS]:
@@ -229,7 +229,7 @@ def told(folder):
 def as_a_whole(folder):
     """The gate ends with status 1 where a crate is not proved, and names the tools that are lacking."""
     write_tree(f"{folder}/copy", check="logic=not-proved functions=1\n")
-    for it in [*glob.glob(f"{TOP}/proving/*.py"), *glob.glob(f"{TOP}/mutants/*.py"), f"{TOP}/launcher/kit.py", f"{TOP}/tests/failures.py", f"{TOP}/gate"]:
+    for it in [*glob.glob(f"{TOP}/proving/*.py"), *glob.glob(f"{TOP}/mutants/*.py"), f"{TOP}/launcher/kit.py", f"{TOP}/tests/failures.py", f"{TOP}/tests/rows.py", f"{TOP}/gate"]:
         os.makedirs(os.path.dirname(f"{folder}/copy/{os.path.relpath(it, TOP)}"), exist_ok=True)
         shutil.copy(it, f"{folder}/copy/{os.path.relpath(it, TOP)}")
     write(f"{folder}/copy/proving/scenes.py", "from telling import Step\n\n\ndef run(_):\n    return Step(1)\n")

@@ -11,6 +11,7 @@ from concurrent.futures import ThreadPoolExecutor
 
 import failures
 import kit
+import rows
 from command import noted, run
 from crates import crates_of, text_of
 from edits import edits_in
@@ -150,11 +151,10 @@ PICTURES = (("examples/two_locks.nts", "docs/two_locks.svg"),)
 
 
 def runs_of(top):
-    """What is run on the examples, and what it has to write: the transcript beside each, and what examples/reports has after the command."""
+    """What is run on the examples, and what it has to write: of each its transcript, and what else examples/reports has."""
     scripts = sorted(os.path.relpath(it, top) for it in glob.glob(f"{top}/examples/*.nts"))
-    reports = [it.split("\n", 1) for it in re.split(r"(?m)^\$ ", text_of(f"{top}/examples/reports"))[1:]]
-    transcripts = [(f"./ntrun script {it}", text_of(f"{top}/{it.removesuffix('.nts')}.transcript")) for it in scripts]
-    return [(line.split(" "), wanted) for line, wanted in (*transcripts, *reports)]
+    wanted = {f"./ntrun script {it}": "" for it in scripts} | rows.reports(top)
+    return [(line.split(" "), text) for line, text in wanted.items()]
 
 
 def example(top, words, wanted):

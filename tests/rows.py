@@ -100,11 +100,18 @@ def worked_scripts():
     return [(name, script_of(block), text_after(">", block), text_after("!", block)) for name, block in worked_blocks()]
 
 
+def reports(top=TOP):
+    """What examples/reports says that commands write of the examples, by the command: a transcript of each, and reports on some."""
+    with open(f"{top}/examples/reports", encoding="ascii") as file:
+        return dict(it.split("\n", 1) for it in re.split(r"(?m)^\$ ", file.read())[1:])
+
+
 def all_scripts():
-    """The scripts of examples, each with its transcript beside it, and the worked ones: where each stands, and the same of it."""
+    """The scripts of examples, and the worked ones: where each stands, and the same of it."""
     for path in sorted(glob.glob(f"{TOP}/examples/*.nts")):
-        with open(path, "rb") as script, open(f"{path.removesuffix('.nts')}.transcript", encoding="ascii") as transcript:
-            yield f"examples/{os.path.basename(path)}", script.read(), transcript.read(), ""
+        place = os.path.relpath(path, TOP)
+        with open(path, "rb") as script:
+            yield place, script.read(), reports()[f"./ntrun script {place}"], ""
     for name, *script in worked_scripts():
         yield f"tests/scripts/{name}", *script
 

@@ -149,18 +149,18 @@ fn worked_scripts(folder: &Path) -> Vec<(String, String, String)> {
     scripts.map(|it| (it.lines().next().unwrap_or("").into(), marked(&it, '|'), marked(&it, '>'))).collect()
 }
 
-/// The scripts of `examples`, likewise.
+/// The scripts of `examples` in this folder, likewise.
 fn examples(folder: &Path) -> Vec<(String, String, String)> {
-    let paths = fs::read_dir(folder).expect("the examples").map(|it| it.expect("an example").path());
-    let scripts = paths.filter(|it| it.extension().is_some_and(|it| it == "nts"));
-    let text = |path: &Path| fs::read_to_string(path).expect("a text");
-    scripts.map(|it| (it.display().to_string(), text(&it), text(&it.with_extension("transcript")))).collect()
+    let text = |name: &str| fs::read_to_string(folder.join(name)).expect("a text");
+    let reports = format!("\n{}", text("examples/reports"));
+    let transcripts = reports.trim_end().split("\n$ ").filter_map(|it| it.strip_prefix("./ntrun script ")?.split_once('\n'));
+    transcripts.map(|(name, wanted)| (name.into(), text(name), format!("{wanted}\n"))).collect()
 }
 
 #[test]
 fn worked_scripts_give_the_same_transcripts() {
     let top = Path::new(env!("CARGO_MANIFEST_DIR")).join("../..");
-    let scripts = [worked_scripts(&top.join("tests/scripts")), examples(&top.join("examples"))].concat();
+    let scripts = [worked_scripts(&top.join("tests/scripts")), examples(&top)].concat();
     assert!(scripts.len() >= 100, "{}", scripts.len());
     for (name, script, wanted) in scripts {
         assert_eq!(transcript(&script), wanted, "{name}");
