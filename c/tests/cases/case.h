@@ -1,5 +1,5 @@
 /* What the cases share. Each case is a program of its own, which shows one thing at the library's edges: a correct program does not hang,
- * crash or get a wrong answer there. Its first line says within which time it ends, and what it writes (cases/run). */
+ * crash or get a wrong answer there. Its head says within which time it ends, and what it writes (cases/run). */
 #ifndef CASE_H
 #define CASE_H
 

@@ -1,0 +1,156 @@
+/* How threads and processes end. */
+#include "case.h"
+#include "../../nt.h"
+
+#include <sys/resource.h>
+
+/* exit_in_handler. Within 20 s: 12 passed, 0 failed.
+ *
+ * A handler of SIGTERM calls exit, wherever in a call the thread is: the process ends, also where the thread has the library's lock. */
+
+enum { CHILDREN = 12 };
+
+static void ends(int signal)
+{
+    (void)signal;
+    exit(0);
+}
+
+static void block_end(int how)
+{
+    sigset_t end;
+    sigemptyset(&end);
+    sigaddset(&end, SIGTERM);
+    must(sigprocmask(how, &end, NULL) == 0);
+}
+
+static void call_until_signaled(void)
+{
+    signal(SIGTERM, ends);
+    block_end(SIG_UNBLOCK);
+    HANDLE event = CreateEvent(NULL, FALSE, FALSE, NULL);
+    for (;;) {
+        SetEvent(event);
+        WaitForSingleObject(event, 0);
+    }
+}
+
+int case_exit_in_handler(void)
+{
+    pid_t children[CHILDREN];
+    block_end(SIG_BLOCK); /* (until a child has its handler) */
+    for (int i = 0; i < CHILDREN; i++) {
+        children[i] = fork();
+        must(children[i] >= 0);
+        if (children[i] == 0)
+            call_until_signaled();
+    }
+    rest_ms(300);
+    for (int i = 0; i < CHILDREN; i++) {
+        kill(children[i], SIGTERM);
+        rest_ms(1);
+    }
+    const double began = now_ms();
+    for (int i = 0; i < CHILDREN; i++) {
+        int status = -1;
+        while (waitpid(children[i], &status, WNOHANG) == 0 && now_ms() - began < 100000)
+            rest_ms(1);
+        IS(status, 0);
+        if (status == -1)
+            kill(children[i], SIGKILL);
+    }
+    return counted();
+}
+
+/* exit_thread_without_memory. Within 10 s, unsanitized: 1 passed, 0 failed.
+ *
+ * ExitThread takes no memory, the first time neither. (But a sanitizer does as a thread ends, and ends the process where it gets none.) */
+
+static DWORD exit_without_memory(LPVOID unused)
+{
+    (void)unused;
+    struct rlimit none;
+    must(getrlimit(RLIMIT_AS, &none) == 0);
+    none.rlim_cur = 1;
+    must(setrlimit(RLIMIT_AS, &none) == 0);
+    ExitThread(0);
+}
+
+int case_exit_thread_without_memory(void)
+{
+    static char room[256];
+    setvbuf(stdout, room, _IOFBF, sizeof room);
+    HANDLE thread = CreateThread(NULL, 0, exit_without_memory, NULL, 0, NULL);
+    IS(WaitForSingleObject(thread, INFINITE), WAIT_OBJECT_0);
+    return counted();
+}
+
+/* last_thread. Within 20 s, unsanitized: 1 passed, 0 failed.
+ *
+ * A process whose first thread has left ends with the last of the others, though a thread of the library's takes SIGQUIT. */
+
+static DWORD ends_last(LPVOID unused)
+{
+    (void)unused;
+    rest_ms(50);
+    IS(getenv("NTWIN_WHY") != NULL, 1);
+    return (DWORD)counted();
+}
+
+int case_last_thread(int count, char **words)
+{
+    if (count == 1) {
+        setenv("NTWIN_WHY", "signal", 1);
+        execl("/proc/self/exe", words[0], "again", (char *)NULL);
+        return 2;
+    }
+    must(CreateThread(NULL, 0, ends_last, NULL, 0, NULL) != NULL);
+    pthread_exit(NULL);
+}
+
+/* left_for_good. Within 10 s, unsanitized: 10 passed, 0 failed.
+ *
+ * A thread has left for the library in the last but one round of its destructors: a call in the last round is refused, and does not join it again as
+ * another thread, whose end nobody would see. (The sanitizers end a thread in that round, too.) */
+
+enum { LAST_ROUND = PTHREAD_DESTRUCTOR_ITERATIONS };
+
+static pthread_key_t key;
+static HANDLE event;
+static int rounds;
+static BOOL answer;
+static DWORD error;
+
+static void at_end(void *value)
+{
+    if (++rounds < LAST_ROUND) {
+        pthread_setspecific(key, value);
+        return;
+    }
+    answer = SetEvent(event);
+    error = GetLastError();
+}
+
+static void *wait_once(void *none)
+{
+    (void)none;
+    IS(WaitForSingleObject(event, 0), WAIT_TIMEOUT);
+    pthread_setspecific(key, &key);
+    return NULL;
+}
+
+int case_left_for_good(void)
+{
+    must((event = CreateEvent(NULL, TRUE, FALSE, NULL)) != NULL && pthread_key_create(&key, at_end) == 0);
+    for (int i = 0; i < 2; i++) {
+        pthread_t thread;
+        rounds = 0;
+        answer = TRUE;
+        must(pthread_create(&thread, NULL, wait_once, NULL) == 0 && pthread_join(thread, NULL) == 0);
+        IS(rounds, LAST_ROUND);
+        IS(answer, FALSE);
+        IS(error, NT_ERROR_THREAD_ENDED);
+        IS(WaitForSingleObject(event, 0), WAIT_TIMEOUT);
+    }
+    return counted();
+}
