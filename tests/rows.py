@@ -3,7 +3,7 @@
 A block begins with its head, and an empty line ends it. What is written stands after `> `, what is said on standard error after `! `, and a script or a
 file after `| `, with escapes as in Python.
 
-- `script NAME`, of a file of tests/scripts, is a worked script; `form NAME`, of the file `forms`, one of odd form.
+- `script NAME`, of a file of tests/scripts, is a worked script; `form NAME` one of odd form.
 - `lines NAME` is a script in which a line with `{FILLING}` is filled up to 4096 bytes: with FILLING as often as it has room, and gaps for the rest.
   With a byte more each such line is too long, and what the lines before it write is all that is written.
 - `words NAME` has command lines of the program itself, each after `$ ` as a shell reads it, with the script that they name. It ends with the `status`,
@@ -40,6 +40,11 @@ def blocks_of(name, folder=ROWS):
     with open(f"{folder}/{name}", encoding="utf-8") as file:
         parts = [[it for it in part.split("\n") if it and not it.startswith("#")] for part in file.read().split("\n\n")]
     return [(*part[0].partition(" ")[::2], part[1:]) for part in parts if part]
+
+
+def blocks_of_program(kind):
+    """The name and lines of each block of this kind for the program itself."""
+    return [(name, block) for found, name, block in blocks_of("program") if found == kind]
 
 
 def rows_of(name):
@@ -118,7 +123,7 @@ def all_scripts():
 
 def command_lines():
     """Each command line: what it is, its words, the file to be made for it and what that has, the exit status, and what is written and said."""
-    for _, name, block in blocks_of("words"):
+    for name, block in blocks_of_program("words"):
         wanted = int("".join(lines_of(block, "status")) or 0), text_after(">", block), text_after("!", block)
         script = script_of(block)
         for line in lines_of(block, "$"):
@@ -138,7 +143,7 @@ def filled(line, most):
 def long_scripts():
     """The scripts of odd forms, those with lines that are filled up, and one that creates more events than there are handles: what each is, its
     bytes, and what is written and said."""
-    for _, name, block in blocks_of("forms"):
+    for name, block in blocks_of_program("form"):
         yield name, script_of(block), text_after(">", block), text_after("!", block)
     yield "a fault in line 300", b"threads 1\n" + b"\n" * 298 + b"t0 sett e\n", "", "ntrun: line 300: unknown word\n"
     yield from long_lines()
@@ -149,7 +154,7 @@ def long_scripts():
 
 
 def long_lines():
-    for _, name, block in blocks_of("lines"):
+    for name, block in blocks_of_program("lines"):
         transcript, lines = text_after(">", block), script_of(block).splitlines(keepends=True)
         marked = [at for at, it in enumerate(lines) if b"{" in it]
         whole = [filled(it, MOST) if at in marked else it for at, it in enumerate(lines)]
