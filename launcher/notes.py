@@ -7,26 +7,17 @@ from running import write_all
 
 TOP = os.path.dirname(os.path.dirname(os.path.realpath(__file__)))
 
-# The name of each number after `error`, and what it says, as in the table of docs/WIN32.md, which the tests compare.
-REFUSALS = {
-    5: ("ERROR_ACCESS_DENIED", "the handle lacks a right that the call needs"),
-    6: ("ERROR_INVALID_HANDLE", "the handle names no object, or none of the kind that the call is for"),
-    8: ("ERROR_NOT_ENOUGH_MEMORY", "the call had to grow, and memory was refused"),
-    31: ("ERROR_GEN_FAILURE", "an APC for a thread that has ended"),
-    87: ("ERROR_INVALID_PARAMETER", "an argument that no state allows"),
-    288: ("ERROR_NOT_OWNER", "the mutex is not the caller's"),
-    298: ("ERROR_TOO_MANY_POSTS", "the semaphore's maximum would be passed"),
-    0x20000001: ("ThreadWaiting", "the caller waits"),
-    0x20000002: ("ThreadEnded", "the caller has ended"),
-    0x20000003: ("UnknownThread", "no thread has the caller's number"),
-    0x20000004: ("RecursionLimit", "a wait for a mutex that the caller holds 2147483647 deep"),
-    0x20000005: ("MomentBack", "a tick to a moment that is past"),
-    0x20000007: ("HandleLimit", "all 65,536 handle numbers are used"),
-}
 REFUSED = re.compile(rb"(\d+): error (\d+)\n?")
 PENDING = re.compile(rb"end: pending((?: t\d+)+)\n?")
 # So many refusals are named.
 MOST = 20
+
+
+def refusals():
+    """The name of each number after `error`, and what it says, by the table of docs/WIN32.md."""
+    with open(f"{TOP}/docs/WIN32.md", encoding="utf-8") as page:
+        rows = re.findall(r"(?m)^\| (\d+) [^|]*\| `?(\w+)`? \| (.*) \|$", page.read())
+    return {int(number): (name, means) for number, name, means in rows}
 
 
 class Notes:
@@ -71,8 +62,9 @@ class Notes:
 
     def lines(self, name):
         """What is said of the transcript of the script with this name."""
+        names = refusals() if self.refusals else {}
         for number, refusal in self.refusals:
-            called, means = REFUSALS.get(refusal, ("a refusal", "docs/WIN32.md has the numbers"))
+            called, means = names.get(refusal, ("a refusal", "docs/WIN32.md has the numbers"))
             yield f"{name}:{number}: error {refusal}, {called}: {means}"
         if self.more:
             yield f"./ntrun: {self.more} more refusals; docs/WIN32.md has the numbers"

@@ -146,8 +146,8 @@ def unproved_build(top, progress):
 
 # The exit statuses that what is run on an example may end with.
 STATUSES = {"script": (0,), "why": (0, 3, 4), "timeline": (0,), "explore": (0, 3)}
-# Pictures of the docs, each with the example that it shows.
-PICTURES = (("examples/two_locks.nts", "docs/two_locks.svg"),)
+# A picture of the docs, and the example that it shows.
+PICTURE, SHOWN = "docs/two_locks.svg", "examples/two_locks.nts"
 
 
 def runs_of(top):
@@ -168,21 +168,19 @@ def example(top, words, wanted):
     return told
 
 
-def drawn(top, script, picture):
-    """What is told where this picture is not what `ntlook timeline` draws of the script."""
+def drawn(top):
+    """What is told where the picture is not what `ntlook timeline` draws."""
     with tempfile.TemporaryDirectory() as folder:
-        words = ["./ntlook", "timeline", script, "--svg", f"{folder}/drawn.svg"]
-        ran = subprocess.run(words, cwd=top, check=False, stdin=subprocess.DEVNULL, capture_output=True, errors="backslashreplace")
-        if not ran.returncode and filecmp.cmp(f"{folder}/drawn.svg", f"{top}/{picture}", shallow=False):
+        ran = run(["./ntlook", "timeline", SHOWN, "--svg", f"{folder}/drawn.svg"], top)
+        if not ran.status and filecmp.cmp(f"{folder}/drawn.svg", f"{top}/{PICTURE}", shallow=False):
             return []
-    return [f"{picture}: not what ./ntlook timeline {script} --svg {picture} draws", *ran.stderr.splitlines()]
+    return [f"{PICTURE}: not what ./ntlook timeline {SHOWN} --svg {PICTURE} draws", *ran.text.splitlines()]
 
 
 def examples(top, progress):
-    """What the launchers write of each example is as it stands. Not of each stands why its threads wait, a timeline, or orders. A picture of the docs
-    is what `ntlook timeline` draws."""
+    """What the launchers write of each example is as it stands, and so is the picture. Not of each stands why its threads wait, a timeline, or orders."""
     runs = [(words[2], functools.partial(example, top, words, wanted)) for words, wanted in runs_of(top)]
-    runs += [(picture, functools.partial(drawn, top, script, picture)) for script, picture in PICTURES]
+    runs.append((PICTURE, functools.partial(drawn, top)))
     with ThreadPoolExecutor(processors()) as pool:
         told = list(pool.map(lambda it: it[1](), runs))
     for it in sum(told, []):

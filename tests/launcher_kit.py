@@ -1,8 +1,10 @@
 """A copy of the launcher over sources of its own, and a kit that builds at once: for the tests of when the launcher builds, and what it says then."""
 import os
-import re
 import shutil
 import subprocess
+import sys
+
+import building
 
 TOP = os.path.dirname(os.path.dirname(os.path.realpath(__file__)))
 
@@ -17,10 +19,11 @@ def said_of(text):
     return [it for it in text.splitlines() if not it.startswith(("./ntrun: ", "./ntlook: "))]
 
 
-def cells(path, beginning):
-    """The first cells of the rows of a page's table that begin so."""
-    with open(path, encoding="utf-8") as file:
-        return [[it.strip() for it in line.strip("| \n").split(" | ")] for line in file if re.match(beginning, line)]
+def built_program():
+    """The path of `ntrun`, which its launcher builds if it has to be. Who asks ends if it can't be built."""
+    if subprocess.run([f"{TOP}/ntrun", "threads", "1", "1"], stdout=subprocess.DEVNULL, check=False).returncode == 125:
+        sys.exit("no program to be tested")
+    return building.path_once_built(building.NTRUN)
 
 
 # A kit for the tests of building: it notes each of its runs, and the program that it builds is the shell, which takes its first word for the name of
