@@ -1,6 +1,7 @@
 """Builds a program: proved, or once for its sources without proofs, and then the other program beside it. One run of a launcher builds in a clone at
 a time, and others wait for it and use what it built.
 """
+import concurrent.futures
 import contextlib
 import fcntl
 import functools
@@ -9,7 +10,6 @@ import os
 import shutil
 import subprocess
 import tempfile
-import threading
 import time
 
 import kit
@@ -195,28 +195,23 @@ def keep_unproved(built, builders):
     os.replace(f"{built.unproved}.new", built.unproved)
 
 
-class Beside:
+@contextlib.contextmanager
+def others_beside(built):
     """While it lasts, builds the other programs that are not built too. What comes of that shows once they are asked for."""
-
-    def __init__(self, built):
-        others = [it for it in PROGRAMS if it is not built and os.path.isdir(it.crate) and not is_built(it)]
-        self.builders = []
-        self.building = [threading.Thread(target=self.build, args=(it,), daemon=True) for it in others]
-
-    def build(self, built):
+    def build(other):
         with contextlib.suppress(NotBuilt, OSError):
-            keep_unproved(built, self.builders)
+            keep_unproved(other, builders)
 
-    def __enter__(self):
-        for it in self.building:
-            it.start()
-
-    def __exit__(self, failure, *_):
-        if failure:
-            for it in self.builders:
+    builders, others = [], [it for it in PROGRAMS if it is not built and os.path.isdir(it.crate) and not is_built(it)]
+    with concurrent.futures.ThreadPoolExecutor() as pool:
+        for it in others:
+            pool.submit(build, it)
+        try:
+            yield
+        except BaseException:
+            for it in builders:
                 it.terminate()
-        for it in self.building:
-            it.join()
+            raise
 
 
 def judge_room():
@@ -234,7 +229,7 @@ def build_unproved(built):
     began = time.time_ns()
     say(f"{WHO}: building ntrun and ntlook without proofs, once for these sources; about {about_seconds()}")
     try:
-        with Progress("building", about_seconds()), Beside(built):
+        with Progress("building", about_seconds()), others_beside(built):
             keep_unproved(built, [])
     except NotBuilt as why:
         say(*why.args[1:2] and why.args[1])
