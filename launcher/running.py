@@ -129,21 +129,14 @@ def run(built, words, notes_taken=None):
     return (128 - status if status < 0 else status), said
 
 
-def is_file(path):
-    """Whether the file can be read a second time."""
-    try:
-        return stat.S_ISREG(os.stat(path).st_mode)
-    except OSError:
-        return False
-
-
 def explain_fault(built, words, path, name, said):
     """Says more of the fault that the program told so: where it stands and what can stand there; of a pipe its name and line alone."""
     told = re.fullmatch(rb"\w+: line ([0-9]+): (.*)\n", said)
     if not told:
         return
     line, fault = told[1].decode(), told[2].decode()
-    if not is_file(path):
+    if not os.path.isfile(path):
+        # (A pipe can't be read a second time.)
         say(f"{name}:{line}: {fault}")
         return
     asks = {**os.environ, "NT_FAULT": fault, "NT_FAULT_LINE": line, "NT_FAULT_SCRIPT": name}

@@ -1,5 +1,6 @@
 """Runs tasks side by side: one for each processor, and as many as memory holds."""
 import concurrent.futures
+import contextlib
 import dataclasses
 import os
 import re
@@ -36,12 +37,10 @@ def memory_of(crate):
 
 def number_in(path, pattern):
     """The number that the pattern finds in a file, or None."""
-    try:
-        with open(path, encoding="ascii") as file:
-            found = re.search(pattern, file.read(), re.M)
-    except OSError:
-        return None
-    return int(found[1]) if found else None
+    with contextlib.suppress(OSError), open(path, encoding="ascii") as file:
+        found = re.search(pattern, file.read(), re.M)
+        return int(found[1]) if found else None
+    return None
 
 
 def processors():

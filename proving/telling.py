@@ -1,4 +1,5 @@
 """What the gate tells: its steps, their times, what they counted, and what is lacking on the machine."""
+import contextlib
 import json
 import os
 import re
@@ -120,20 +121,15 @@ def compiles_with(compiler, flag):
 
 def times_on(path):
     """The seconds that each step took the last time on this machine."""
-    try:
-        with open(path, encoding="utf-8") as file:
-            found = json.load(file)
-        return {str(name): float(seconds) for name, seconds in found.items()}
-    except (OSError, ValueError, AttributeError, TypeError):
-        return {}
+    with contextlib.suppress(OSError, ValueError, AttributeError, TypeError), open(path, encoding="utf-8") as file:
+        return {str(name): float(seconds) for name, seconds in json.load(file).items()}
+    return {}
 
 
 def keep_times(path, times):
-    try:
+    # (a home that cannot be written has no times)
+    with contextlib.suppress(OSError):
         os.makedirs(os.path.dirname(path), exist_ok=True)
         with open(f"{path}.{os.getpid()}", "w", encoding="utf-8") as file:
             json.dump(times, file)
         os.replace(f"{path}.{os.getpid()}", path)
-    except OSError:
-        # (a home that cannot be written has no times)
-        pass

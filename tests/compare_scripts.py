@@ -174,17 +174,15 @@ class Draw:
         keyword, letter, *flags = self.rng.choice(CREATIONS).split()
         return " ".join([keyword, self.name(letter), *flags])
 
-    def duplicate(self, _who):
-        return f"dup {self.name('d')} {self.word()} {self.rng.choice(RIGHTS)}"
-
-    def close(self, _who):
-        return f"close {self.word()}"
-
-    def signal(self, _who):
-        return f"{self.rng.choice(['set', 'set', 'set', 'pulse', 'reset'])} {self.awaited('event')}"
-
-    def release(self, _who):
-        return f"release {self.awaited('semaphore')} {self.rng.choice([1, 1, 1, 2, 3] if self.is_crowd else RELEASES)}"
+    duplicate = lambda self, _who: f"dup {self.name('d')} {self.word()} {self.rng.choice(RIGHTS)}"
+    close = lambda self, _who: f"close {self.word()}"
+    signal = lambda self, _who: f"{self.rng.choice(['set', 'set', 'set', 'pulse', 'reset'])} {self.awaited('event')}"
+    release = lambda self, _who: f"release {self.awaited('semaphore')} {self.rng.choice([1, 1, 1, 2, 3] if self.is_crowd else RELEASES)}"
+    sleep = lambda self, who: f"sleep {self.time(who)}"
+    apc = lambda self, _who: f"apc {self.word('thread')} {self.rng.randrange(9)} {self.rng.choice([0, 7, (1 << 64) - 1])}"
+    next = lambda self, _who: "next"
+    cancel = lambda self, _who: f"cancel {self.word('timer')}"
+    exit = lambda self, who: "exit" if who or self.rng.random() < 0.1 else "next"
 
     def owned(self, who):
         return [at for at in self.handles("mutex") if self.machine.objects[self.machine.handles[at][0]].owner == who]
@@ -221,25 +219,10 @@ class Draw:
         awaited = self.word(*self.rng.choice([(), ("mutex",)]))
         return f"swap {signal} {awaited} {self.time(who)}"
 
-    def sleep(self, who):
-        return f"sleep {self.time(who)}"
-
-    def apc(self, _who):
-        return f"apc {self.word('thread')} {self.rng.randrange(9)} {self.rng.choice([0, 7, (1 << 64) - 1])}"
-
-    def next(self, _who):
-        return "next"
-
     def arm(self, _who):
         due = self.rng.choice([*DUES, self.machine.now, self.machine.now + 5000, self.machine.now + 10000])
         routine = f" {self.rng.randrange(9)} {self.rng.randrange(9)}" if self.rng.random() < 0.5 else ""
         return f"arm {self.awaited('timer')} {due} {self.rng.choice(PERIODS)}{routine}"
-
-    def cancel(self, _who):
-        return f"cancel {self.word('timer')}"
-
-    def exit(self, who):
-        return "exit" if who or self.rng.random() < 0.1 else "next"
 
     def tick(self):
         if self.rng.random() < 0.06:
