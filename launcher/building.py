@@ -13,7 +13,7 @@ import tempfile
 import time
 
 import kit
-from terminal import WHO, Progress, say
+from terminal import WHO, progress, say
 
 TOP = os.path.dirname(os.path.dirname(os.path.realpath(__file__)))
 LOCK = f"{TOP}/out/building"
@@ -100,7 +100,7 @@ def alone():
             fcntl.flock(lock, fcntl.LOCK_EX | fcntl.LOCK_NB)
         except BlockingIOError:
             say(f"{WHO}: another run is building a program: this one waits for it")
-            with Progress("waiting for the other run's build"):
+            with progress("waiting for the other run's build"):
                 fcntl.flock(lock, fcntl.LOCK_EX)
         yield
 
@@ -229,7 +229,7 @@ def build_unproved(built):
     began = time.time_ns()
     say(f"{WHO}: building ntrun and ntlook without proofs, once for these sources; about {about_seconds()}")
     try:
-        with Progress("building", about_seconds()), others_beside(built):
+        with progress("building", about_seconds()), others_beside(built):
             keep_unproved(built, [])
     except NotBuilt as why:
         say(*why.args[1:2] and why.args[1])

@@ -9,7 +9,7 @@ import subprocess
 import sys
 
 import building
-from terminal import WHO, Progress, say
+from terminal import WHO, progress, say
 
 PROVED_OR_INPUT = "FILE may be - for standard input; --proved before all other words proves and builds the program first"
 
@@ -97,7 +97,7 @@ def run_and_show(built, words, what):
     child = subprocess.Popen([building.path_of(built), *words], stdout=subprocess.PIPE, stderr=subprocess.PIPE, close_fds=False)
     signal.signal(signal.SIGINT, signal.SIG_IGN)
     signal.signal(signal.SIGTERM, lambda *_: child.terminate())
-    with Progress(what):
+    with progress(what):
         wrote, said = child.communicate()
     say(*said.splitlines())
     status = child.returncode

@@ -7,6 +7,7 @@ import time
 
 # The launcher that speaks: each line of its own begins with this.
 WHO = f"./{os.path.basename(sys.argv[0])}"
+EVERY = 15  # seconds between two lines of progress, where no terminal shows it
 
 
 def say(*lines):
@@ -22,37 +23,28 @@ def is_terminal():
     return False
 
 
-class Progress:
+def write(text):
+    """Writes to standard error, likewise."""
+    with contextlib.suppress(OSError, AttributeError):
+        sys.stderr.write(text)
+        sys.stderr.flush()
+
+
+@contextlib.contextmanager
+def progress(what, about=None):
     """While it lasts, says how long a step has taken so far: each second on one line of a terminal, else each `EVERY` seconds."""
+    began, ended, shows, of_about = time.monotonic(), threading.Event(), is_terminal(), f", of about {about}" if about else ""
 
-    EVERY = 15
+    def tell():
+        while not ended.wait(1 if shows else EVERY):
+            line = f"{WHO}: {what}: {int(time.monotonic() - began)} s{of_about}"
+            write(f"\r\033[K{line}" if shows else f"{line}\n")
+        write("\r\033[K" if shows else "")
 
-    def __init__(self, what, about=None):
-        self.what = what
-        self.about = f", of about {about}" if about else ""
-
-    def __enter__(self):
-        self.began, self.ends, self.shows = time.monotonic(), threading.Event(), is_terminal()
-        self.teller = threading.Thread(target=self.tell, daemon=True)
-        self.teller.start()
-        return self
-
-    def __exit__(self, *_):
-        self.ends.set()
-        self.teller.join()
-
-    def seconds(self):
-        return int(time.monotonic() - self.began)
-
-    def tell(self):
-        while not self.ends.wait(1 if self.shows else self.EVERY):
-            line = f"{WHO}: {self.what}: {self.seconds()} s{self.about}"
-            self.write(f"\r\033[K{line}" if self.shows else f"{line}\n")
-        if self.shows:
-            self.write("\r\033[K")
-
-    @staticmethod
-    def write(text):
-        with contextlib.suppress(OSError, AttributeError):
-            sys.stderr.write(text)
-            sys.stderr.flush()
+    teller = threading.Thread(target=tell, daemon=True)
+    teller.start()
+    try:
+        yield
+    finally:
+        ended.set()
+        teller.join()
