@@ -229,7 +229,8 @@ def told(folder):
 def as_a_whole(folder):
     """The gate ends with status 1 where a crate is not proved, and names the tools that are lacking."""
     write_tree(f"{folder}/copy", check="logic=not-proved functions=1\n")
-    for it in [*glob.glob(f"{TOP}/proving/*.py"), *glob.glob(f"{TOP}/mutants/*.py"), f"{TOP}/launcher/kit.py", f"{TOP}/tests/failures.py", f"{TOP}/tests/rows.py", f"{TOP}/gate"]:
+    others = [f"{TOP}/{it}" for it in ("launcher/kit.py", "tests/failures.py", "tests/rows.py", "gate")]
+    for it in [*glob.glob(f"{TOP}/proving/*.py"), *glob.glob(f"{TOP}/mutants/*.py"), *others]:
         os.makedirs(os.path.dirname(f"{folder}/copy/{os.path.relpath(it, TOP)}"), exist_ok=True)
         shutil.copy(it, f"{folder}/copy/{os.path.relpath(it, TOP)}")
     write(f"{folder}/copy/proving/scenes.py", "from telling import Step\n\n\ndef run(_):\n    return Step(1)\n")

@@ -178,7 +178,7 @@ def drawn(top):
 
 
 def examples(top, progress):
-    """What the launchers write of each example is as it stands, and so is the picture. Not of each stands why its threads wait, a timeline, or orders."""
+    """The launchers write of each example what stands, and draw the picture. Not of each stands why its threads wait, a timeline, or orders."""
     runs = [(words[2], functools.partial(example, top, words, wanted)) for words, wanted in runs_of(top)]
     runs.append((PICTURE, functools.partial(drawn, top)))
     with ThreadPoolExecutor(processors()) as pool:
