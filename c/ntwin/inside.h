@@ -196,6 +196,7 @@ struct own {
     bool rests;        /* it sleeps with that packet, and does not count among those that run */
     bool has_turn;     /* it forks, and nobody tells meanwhile why threads wait */
     DWORD mark;        /* its id once it has entered a critical section, by which it enters the next; 0 where a sanitizer learns of each */
+    volatile uint32_t latches; /* how many latches it has, or waits for, which its handlers of signals read (win32/latch.c) */
 };
 #ifndef own
 static _Thread_local struct own own __attribute__((tls_model("initial-exec")));

@@ -1,6 +1,6 @@
-/* A handler of signals sets an event, in each window of one instruction of a call of its own thread (step.h): either it does, or it is refused with
- * ERROR_POSSIBLE_DEADLOCK, since its thread has the lock or takes it. It never waits for what its own thread has: so it is too where that tells why
- * threads wait, or ends the process. */
+/* A handler of signals makes a call, in each window of one instruction of a call of its own thread (step.h): either it does, or it is refused with
+ * ERROR_POSSIBLE_DEADLOCK, since its thread has the lock or a latch, or takes it. It never waits for what its own thread has: so it is too where that
+ * tells why threads wait, or ends the process. */
 #define LOOKS_AT_LOCK 1
 #define LOOKS_AT_WORD 1
 #define WAITS_PER_TRY 4096
@@ -41,14 +41,19 @@ static void on_hang(int signal)
     _exit(write(STDOUT_FILENO, line, (size_t)length) < 0 ? 6 : 5);
 }
 
-/* The handler's call. */
-static void set_others(void)
+/* The handler's call has been made, or was refused. */
+static void note_whether(BOOL is_done)
 {
-    SetLastError(0);
-    has_set = SetEvent(others);
+    has_set = is_done;
     must(has_set || GetLastError() == ERROR_POSSIBLE_DEADLOCK);
     sets += has_set;
     refusals += !has_set;
+}
+
+static void set_others(void)
+{
+    SetLastError(0);
+    note_whether(SetEvent(others));
 }
 
 static void set_mine(void)
@@ -70,25 +75,35 @@ static bool is_set(HANDLE event)
     return WaitForSingleObject(event, 0) == WAIT_OBJECT_0;
 }
 
-/* Tries the handler's call at each instruction. What each answered is so. */
-static void interrupt(const char *name, act *before, act *call, act *other)
+/* Tries the handler's call at each instruction. Then what each answered is so. */
+static void interrupt_by(act *inner, void then(void), const char *name, act *before, act *call, act *other)
 {
     bool came = true;
     int missed = 0;
     pair = name;
     sets = refusals = 0;
     stepped.before = before;
-    stepped.inner = set_others;
+    stepped.inner = inner;
     for (number = -1; next_step(&number, &missed, came);) {
         alarm(SECONDS_EACH_TIME);
         has_set = FALSE;
         came = step(call, other, number);
-        must(is_set(others) == has_set);
-        is_set(mine), is_set(third);
+        then();
     }
     alarm(0);
     IS(sets > 0, true);
     IS(refusals > 0, true);
+}
+
+static void look_at_others(void)
+{
+    must(is_set(others) == has_set);
+    is_set(mine), is_set(third);
+}
+
+static void interrupt(const char *name, act *before, act *call, act *other)
+{
+    interrupt_by(set_others, look_at_others, name, before, call, other);
 }
 
 static void call_once(void)
@@ -129,6 +144,113 @@ static bool has_told(void)
 {
     has_locked = has_locked || !lock_is(FREE);
     return has_locked && lock_is(FREE);
+}
+
+/* ---- A handler that posts a packet, submits work, or sets a timer. */
+
+static HANDLE port;
+static PTP_WORK work;
+static PTP_TIMER timer, timer_of_handler;
+static _Atomic LONG ran;
+
+static BOOL post_packet(void)
+{
+    return PostQueuedCompletionStatus(port, 0, 0, NULL);
+}
+
+static void post(void)
+{
+    must(post_packet());
+}
+
+static void post_in_handler(void)
+{
+    SetLastError(0);
+    note_whether(post_packet());
+}
+
+static void take_packets(void)
+{
+    OVERLAPPED_ENTRY entry;
+    for (LONG left = 1 + has_set; left >= 0; left--) {
+        ULONG count;
+        must(GetQueuedCompletionStatusEx(port, &entry, 1, &count, 0, FALSE) == (left > 0));
+    }
+}
+
+static void CALLBACK count_run(PTP_CALLBACK_INSTANCE instance, PVOID none, PTP_WORK its_work)
+{
+    (void)instance, (void)none, (void)its_work;
+    ran++;
+}
+
+static void submit_work(void)
+{
+    SubmitThreadpoolWork(work);
+}
+
+static void submit_in_handler(void)
+{
+    SetLastError(0);
+    submit_work();
+    note_whether(GetLastError() == 0);
+}
+
+static void wait_for_callbacks(void)
+{
+    WaitForThreadpoolWorkCallbacks(work, FALSE);
+    must(ran == 1 + has_set);
+    ran = 0;
+}
+
+static void CALLBACK never(PTP_CALLBACK_INSTANCE instance, PVOID none, PTP_TIMER its_timer)
+{
+    (void)instance, (void)none, (void)its_timer;
+    must(false);
+}
+
+static void set_to_an_hour(PTP_TIMER it)
+{
+    ULARGE_INTEGER due = { .QuadPart = (ULONGLONG)(-36000000000LL) };
+    SetThreadpoolTimer(it, &(FILETIME){ due.LowPart, due.HighPart }, 0, 0);
+}
+
+static void set_first_timer(void)
+{
+    set_to_an_hour(timer);
+}
+
+static void set_in_handler(void)
+{
+    SetLastError(0);
+    set_to_an_hour(timer_of_handler);
+    note_whether(GetLastError() == 0);
+}
+
+static void stop_timers(void)
+{
+    must(IsThreadpoolTimerSet(timer));
+    must(IsThreadpoolTimerSet(timer_of_handler) == has_set);
+    SetThreadpoolTimer(timer, NULL, 0, 0);
+    SetThreadpoolTimer(timer_of_handler, NULL, 0, 0);
+}
+
+static void interrupt_at_latches(void)
+{
+    TP_CALLBACK_ENVIRON environment;
+    PTP_POOL pool = CreateThreadpool(NULL);
+    must(pool != NULL && SetThreadpoolThreadMinimum(pool, 1));
+    SetThreadpoolThreadMaximum(pool, 1);
+    InitializeThreadpoolEnvironment(&environment);
+    SetThreadpoolCallbackPool(&environment, pool);
+    port = CreateIoCompletionPort(INVALID_HANDLE_VALUE, NULL, 0, 0);
+    work = CreateThreadpoolWork(count_run, NULL, &environment);
+    timer = CreateThreadpoolTimer(never, NULL, &environment);
+    timer_of_handler = CreateThreadpoolTimer(never, NULL, &environment);
+    must(port != NULL && work != NULL && timer != NULL && timer_of_handler != NULL);
+    interrupt_by(post_in_handler, take_packets, "PostQueuedCompletionStatus", call_once, post, nothing);
+    interrupt_by(submit_in_handler, wait_for_callbacks, "SubmitThreadpoolWork", call_once, submit_work, nothing);
+    interrupt_by(set_in_handler, stop_timers, "SetThreadpoolTimer", call_once, set_first_timer, nothing);
 }
 
 /* ---- A signal wakes a thread that sleeps, and its handler sets what that waits for. */
@@ -187,6 +309,7 @@ int main(void)
         interrupt("SetEvent, by the favoured thread, whose favour is revoked", be_favoured, set_mine, set_third);
         passes_over = NULL;
     }
+    interrupt_at_latches();
     signal_sleepers();
     return counted_checks();
 }

@@ -28,6 +28,8 @@ static struct call put_callback(struct task *task, uint32_t outcome)
 static void submit(struct task *task)
 {
     const DWORD error = own.last_error;
+    if (is_at_latch())
+        return;
     take_latch(&pools_latch);
     const struct call call = put_callback(task, SIGNALED);
     give_latch(&pools_latch);
@@ -272,6 +274,8 @@ static uint32_t wait_for_task(struct task *task, bool cancels)
 {
     const DWORD error = own.last_error;
     bool is_refused = false;
+    if (is_at_latch())
+        return 0;
     take_latch(&pools_latch);
     const uint32_t dropped = cancels ? drop_callbacks(task) : 0;
     while (!process.is_forked && (task->running > 0 || to_come(task) > 0)) {
@@ -293,6 +297,8 @@ static uint32_t wait_for_task(struct task *task, bool cancels)
 /* The program needs it no longer: it is gone once its callbacks have ended. Answers whether that is now. */
 static bool close_task(struct task *task, HANDLE done)
 {
+    if (is_at_latch())
+        return false;
     if (task->stop != NULL)
         task->stop(task);
     take_latch(&pools_latch);
@@ -309,6 +315,8 @@ static bool close_task(struct task *task, HANDLE done)
 /* As it is closed by a call with an event: null, one that is set once the callbacks have ended, or INVALID_HANDLE_VALUE to wait for them. */
 static BOOL end_task(struct task *task, HANDLE event)
 {
+    if (is_at_latch())
+        return FALSE;
     if (event == INVALID_HANDLE_VALUE) {
         if (task->stop != NULL)
             task->stop(task);

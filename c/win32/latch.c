@@ -1,16 +1,48 @@
 /* SPDX-License-Identifier: MIT OR Apache-2.0 */
-/* ---- A latch: a word that is free, taken, or taken and wanted, as the dispatcher's lock is. It is held for a few instructions. */
+/* ---- A latch: a word that is free, taken, or taken and wanted, as the dispatcher's lock is. It is held for a few instructions. A handler of signals
+ * that has interrupted them takes none, since its own thread may have it. */
 
-static inline bool try_latch(_Atomic uint32_t *latch)
+static inline bool takes_at_once(_Atomic uint32_t *latch)
 {
     uint32_t seen = FREE;
     return atomic_compare_exchange_strong_explicit(latch, &seen, TAKEN, memory_order_acquire, memory_order_relaxed);
 }
 
+/* The caller has a latch, or waits for one, from now on. */
+static inline void come_to_latch(void)
+{
+    own.latches++;
+    atomic_signal_fence(memory_order_seq_cst);
+}
+
+static inline void go_from_latch(void)
+{
+    atomic_signal_fence(memory_order_seq_cst);
+    own.latches--;
+}
+
+/* Whether the caller is a handler of signals that has interrupted its thread there; then the last error is set. The calls of pools and ports begin so. */
+static inline bool is_at_latch(void)
+{
+    if (own.latches == 0)
+        return false;
+    own.last_error = ERROR_POSSIBLE_DEADLOCK;
+    return true;
+}
+
+static inline bool try_latch(_Atomic uint32_t *latch)
+{
+    come_to_latch();
+    const bool is_taken = takes_at_once(latch);
+    if (!is_taken)
+        go_from_latch();
+    return is_taken;
+}
+
 __attribute__((noinline, cold)) static void wait_for_latch(_Atomic uint32_t *latch)
 {
     for (uint32_t i = 0; i < LOOKS_AT_LOCK; i++) {
-        if (atomic_load_explicit(latch, memory_order_relaxed) == FREE && try_latch(latch))
+        if (atomic_load_explicit(latch, memory_order_relaxed) == FREE && takes_at_once(latch))
             return;
         rest();
     }
@@ -20,7 +52,8 @@ __attribute__((noinline, cold)) static void wait_for_latch(_Atomic uint32_t *lat
 
 static inline void take_latch(_Atomic uint32_t *latch)
 {
-    if (!try_latch(latch))
+    come_to_latch();
+    if (!takes_at_once(latch))
         wait_for_latch(latch);
     comes_after(latch);
 }
@@ -30,6 +63,7 @@ static inline void give_latch(_Atomic uint32_t *latch)
     comes_before(latch);
     if (atomic_exchange_explicit(latch, FREE, memory_order_release) == WANTED)
         wake_one(latch);
+    go_from_latch();
 }
 
 /* Wakes up to this number of those threads that sleep on the word among these. */

@@ -107,7 +107,7 @@ MMRESULT timeSetEvent(UINT ms, UINT resolution, LPTIMECALLBACK callback, DWORD_P
     const DWORD error = own.last_error;
     const struct _TP_TIMER what = { .task.after = end_media_callback, .queue_callback = call_media_timer, .in_thread = true };
     (void)resolution;
-    if (ms == 0 || ms > LONGEST_DELAY_MS || callback == NULL)
+    if (ms == 0 || ms > LONGEST_DELAY_MS || callback == NULL || is_at_latch())
         return 0;
     take_latch(&pools_latch);
     struct media_timer *place = take_place();
@@ -128,6 +128,8 @@ MMRESULT timeSetEvent(UINT ms, UINT resolution, LPTIMECALLBACK callback, DWORD_P
 MMRESULT timeKillEvent(UINT number)
 {
     const DWORD error = own.last_error;
+    if (is_at_latch())
+        return TIMERR_NOCANDO;
     const struct media_timer it = take_media_timer(number);
     const bool waits = (it.how & TIME_KILL_SYNCHRONOUS) != 0 && !is_in_media_timer;
     if (it.timer == NULL)

@@ -22,6 +22,8 @@ static void add_task(struct task *task, PVOID context, PTP_CALLBACK_ENVIRON envi
  * refused a thread: so its callbacks come, whatever the program waits on. Null, with the last error set, where there is none. */
 static void *new_task(bool has_callback, size_t size)
 {
+    if (is_at_latch())
+        return NULL;
     const uint32_t refused = has_callback ? keep_time() : ERROR_INVALID_PARAMETER;
     void *made = refused == 0 ? calloc(1, size) : NULL;
     if (made == NULL)
@@ -38,6 +40,8 @@ static void open_task(struct task *task, PVOID context, PTP_CALLBACK_ENVIRON env
 
 PTP_POOL CreateThreadpool(PVOID reserved)
 {
+    if (is_at_latch())
+        return NULL;
     PTP_POOL pool = reserved == NULL ? calloc(1, sizeof *pool) : NULL;
     if (pool == NULL) {
         fail(reserved != NULL ? ERROR_INVALID_PARAMETER : ERROR_NOT_ENOUGH_MEMORY);
@@ -88,6 +92,8 @@ static void set_bounds(PTP_POOL pool, struct bounds bounds)
 
 void SetThreadpoolThreadMaximum(PTP_POOL pool, DWORD most)
 {
+    if (is_at_latch())
+        return;
     struct bounds bounds = bounds_of(pool);
     bounds.most = most > 0 ? most : 1;
     if (bounds.least > bounds.most)
@@ -109,6 +115,8 @@ static bool lacks_thread(PTP_POOL pool)
 /* Starts those that are not there yet. (Each may be at work before the next is started.) */
 BOOL SetThreadpoolThreadMinimum(PTP_POOL pool, DWORD least)
 {
+    if (is_at_latch())
+        return FALSE;
     const struct bounds before = bounds_of(pool);
     set_bounds(pool, (struct bounds){ least, before.most > least ? before.most : least });
     while (lacks_thread(pool))
@@ -122,6 +130,8 @@ BOOL SetThreadpoolThreadMinimum(PTP_POOL pool, DWORD least)
 
 void CloseThreadpool(PTP_POOL pool)
 {
+    if (is_at_latch())
+        return;
     take_latch(&pools_latch);
     pool->is_closed = true;
     atomic_fetch_add_explicit(&pool->calls, 1, memory_order_relaxed);
@@ -260,7 +270,7 @@ PTP_CLEANUP_GROUP CreateThreadpoolCleanupGroup(void)
 
 void CloseThreadpoolCleanupGroupMembers(PTP_CLEANUP_GROUP group, BOOL cancels, PVOID context)
 {
-    for (;;) {
+    while (!is_at_latch()) {
         take_latch(&pools_latch);
         struct task *task = group->first;
         if (task != NULL)
@@ -310,6 +320,8 @@ void LeaveCriticalSectionWhenCallbackReturns(PTP_CALLBACK_INSTANCE instance, PCR
 BOOL CallbackMayRunLong(PTP_CALLBACK_INSTANCE instance)
 {
     PTP_POOL pool = instance->pool;
+    if (is_at_latch())
+        return FALSE;
     take_latch(&pools_latch);
     const bool is_room = pool->idle > 0 || pool->threads < pool->most;
     give_latch(&pools_latch);
@@ -318,7 +330,7 @@ BOOL CallbackMayRunLong(PTP_CALLBACK_INSTANCE instance)
 
 void DisassociateCurrentThreadFromCallback(PTP_CALLBACK_INSTANCE instance)
 {
-    if (instance->is_apart)
+    if (instance->is_apart || is_at_latch())
         return;
     instance->is_apart = true;
     take_latch(&pools_latch);

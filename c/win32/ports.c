@@ -253,6 +253,8 @@ static void close_port(struct port *port)
 
 BOOL PostQueuedCompletionStatus(HANDLE handle, DWORD bytes, ULONG_PTR key, LPOVERLAPPED overlapped)
 {
+    if (is_at_latch())
+        return FALSE;
     struct packet *packet = malloc(sizeof *packet);
     if (packet == NULL)
         return fail(ERROR_NOT_ENOUGH_MEMORY);
@@ -316,7 +318,7 @@ static struct packet *wait_for_packet(struct port *port, DWORD ms, BOOL alertabl
 /* Takes up to `count` packets, waiting for the first of them. Answers how many; 0, with the last error set, where there is none. */
 static ULONG get_packets(HANDLE handle, LPOVERLAPPED_ENTRY entries, ULONG count, DWORD ms, BOOL alertable)
 {
-    struct port *port = enter_port(handle);
+    struct port *port = !is_at_latch() ? enter_port(handle) : NULL;
     HANDLE event = port != NULL ? event_to_wait() : NULL;
     DWORD error = event != NULL ? WAIT_TIMEOUT : own.last_error;
     ULONG taken = 0;

@@ -222,6 +222,8 @@ static void call_timer(struct task *task, PTP_CALLBACK_INSTANCE instance, uint32
 /* A timer that is not set; null, with the last error set, where there is none. */
 static PTP_TIMER make_timer(struct _TP_TIMER what, PVOID context, PTP_CALLBACK_ENVIRON environment)
 {
+    if (is_at_latch())
+        return NULL;
     if (what.callback == NULL && what.queue_callback == NULL) {
         fail(ERROR_INVALID_PARAMETER);
         return NULL;
@@ -249,11 +251,14 @@ PTP_TIMER CreateThreadpoolTimer(PTP_TIMER_CALLBACK callback, PVOID context, PTP_
 void SetThreadpoolTimer(PTP_TIMER timer, PFILETIME due, DWORD period, DWORD window)
 {
     (void)window;
-    set_pool_timer(timer, due != NULL ? moment_of_time(due) : NEVER, period);
+    if (!is_at_latch())
+        set_pool_timer(timer, due != NULL ? moment_of_time(due) : NEVER, period);
 }
 
 BOOL IsThreadpoolTimerSet(PTP_TIMER timer)
 {
+    if (is_at_latch())
+        return FALSE;
     take_latch(&pools_latch);
     const bool is_set = timer->place != 0;
     give_latch(&pools_latch);
@@ -297,6 +302,8 @@ BOOL ChangeTimerQueueTimer(HANDLE queue, HANDLE timer, ULONG due, ULONG period)
     (void)queue;
     if (it == NULL)
         return fail(ERROR_INVALID_PARAMETER);
+    if (is_at_latch())
+        return FALSE;
     take_latch(&pools_latch);
     const bool is_over = it->is_over;
     give_latch(&pools_latch);
@@ -331,6 +338,8 @@ BOOL DeleteTimerQueueEx(HANDLE queue, HANDLE event)
     PTP_CLEANUP_GROUP group = queue;
     if (queue == NULL)
         return fail(ERROR_INVALID_HANDLE);
+    if (is_at_latch())
+        return FALSE;
     if (event == INVALID_HANDLE_VALUE) {
         CloseThreadpoolCleanupGroupMembers(group, FALSE, NULL);
         free(group);

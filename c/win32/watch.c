@@ -235,6 +235,8 @@ static uint64_t moment_of_time(const FILETIME *time)
 
 void SetThreadpoolWait(PTP_WAIT wait, HANDLE object, PFILETIME timeout)
 {
+    if (is_at_latch())
+        return;
     stop_watch(&wait->task);
     if (object != NULL)
         begin_watch(&wait->task, &(struct watch){ .object = object, .ms = INFINITE, .is_once = true,
