@@ -212,7 +212,8 @@ static void many_timers(void)
     for (size_t i = 2; i < ARRAYSIZE(timers); i += 5)
         must(ChangeTimerQueueTimer(queue, timers[i], (ULONG)(1 + i * 17 % 10), 0));
     IS(settled(&TIMEOUTS, 160), 160);
-    ANSWERS(DeleteTimerQueueEx(queue, DONE), TRUE, UNTOUCHED);
+    /* (The last callback has counted, and may not have ended.) */
+    IS(DeleteTimerQueueEx(queue, DONE) || GetLastError() == ERROR_IO_PENDING, TRUE);
     IS(WaitForSingleObject(DONE, INFINITE), WAIT_OBJECT_0);
     IS(TIMEOUTS, 160);
 }
