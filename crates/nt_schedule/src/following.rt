@@ -1,6 +1,6 @@
 //! A run that is told, followed by the machine.
 
-ghost use Rattle.std.specs.Prelude.{◌≡◌, IfOk, OnOk};
+ghost use Rattle.std.specs.Prelude.{◌≡◌, IfOk, OnOk, OnErr};
 ghost use Rattle.nt_schedule.specs.Turns.{course_of, beginning, is_turn_of, turn_after, followed, is_same, is_same_thread, turn_differs, differs};
 
 use crate::standing::Choice;
@@ -131,6 +131,7 @@ impl Run {
     pub fn follow(&mut self, told: Told) -> Result<Option<Differs>, AllocError>
         ensures found { IfOk result (λ found. found ≡ differs told (course_of self.old)) }
         ensures course { OnOk result (course_of self.new ≡ followed told (course_of self.old)) }
+        ensures refused { OnErr result (course_of self.new ≡ course_of self.old) }
     {
         match told {
             Told::Comes => {

@@ -30,11 +30,11 @@ impl Turns {
         }
     }
 
-    pub(crate) fn at(&self, thread: usize) -> Standing
-        requires { thread < length self.now.threads.items }
-        ensures { result ≡ standing self.now.threads.items thread }
+    pub(crate) fn at(&self, number: usize) -> Standing
+        requires { number < length self.now.threads.items }
+        ensures { result ≡ standing self.now.threads.items number }
     {
-        self.threads[thread]
+        self.threads[number]
     }
 
     pub(crate) fn can_go_on(&self, thread: usize) -> bool
