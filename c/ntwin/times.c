@@ -97,8 +97,13 @@ static int64_t moment_of(int64_t time)
 /* (By the coarse clock: it is late by a tick of the system's timer at the most, as Windows' own is, and takes a quarter of the time.) */
 ULONGLONG GetTickCount64(void)
 {
-    may_switch_at_clock();
-    return coarsely() / (MOMENTS_PER_SECOND / 1000);
+    struct timespec now;
+    if (by_schedule()) {
+        come_to_clock();
+        return scheduled_time() / (MOMENTS_PER_SECOND / 1000);
+    }
+    clock_gettime(CLOCK_MONOTONIC_COARSE, &now);
+    return (ULONGLONG)now.tv_sec * 1000 + (ULONGLONG)now.tv_nsec / 1000000;
 }
 
 DWORD GetTickCount(void)

@@ -98,15 +98,13 @@ static inline struct value *value_in(struct storage *of_thread, enum slot_kind k
     return block != NULL ? &block[index % SLOTS_OF_A_BLOCK] : NULL;
 }
 
-/* The place of the caller's value; null where memory is refused. */
-static struct value *make_value(enum slot_kind kind, DWORD index)
+/* The place of the caller's value, which it gets now; null where memory is refused. */
+__attribute__((noinline, cold)) static struct value *make_value(enum slot_kind kind, DWORD index)
 {
     struct storage *mine = storage_of(kind);
     if (mine == NULL && (mine = make_storage()) == NULL)
         return NULL;
-    if (value_in(mine, kind, index) == NULL)
-        atomic_store_explicit(&mine->blocks[kind][index / SLOTS_OF_A_BLOCK], calloc(SLOTS_OF_A_BLOCK, sizeof(struct value)),
-                              memory_order_release);
+    atomic_store_explicit(&mine->blocks[kind][index / SLOTS_OF_A_BLOCK], calloc(SLOTS_OF_A_BLOCK, sizeof(struct value)), memory_order_release);
     return value_in(mine, kind, index);
 }
 
@@ -247,8 +245,9 @@ static inline BOOL set_value(enum slot_kind kind, DWORD index, PVOID new_value)
 {
     if (!is_slot(kind, index))
         return fail(ERROR_INVALID_PARAMETER);
-    struct value *value = make_value(kind, index);
-    if (value == NULL)
+    struct storage *mine = storage_of(kind);
+    struct value *value = mine != NULL ? value_in(mine, kind, index) : NULL;
+    if (value == NULL && (value = make_value(kind, index)) == NULL)
         return fail(ERROR_NOT_ENOUGH_MEMORY);
     atomic_store_explicit(&value->value, new_value, memory_order_release);
     atomic_store_explicit(&value->turn, atomic_load_explicit(&slots_of[kind].slots[index].turn, memory_order_relaxed),
