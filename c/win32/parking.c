@@ -2,7 +2,7 @@
 /* ---- Threads that wait at an address, the first that came first. Each sleeps on a word of its own, and is woken by itself alone. The addresses
  * are spread over lists; each list has a latch. (`nt_protocols` has laws of this: its specs/Parking.antt names the functions below.) */
 
-enum { PARKING_LISTS = 256, AWAKENED_AT_ONCE = 64, UNPARKED = 0, PARKED = 1, RETRIES = 64 };
+enum { PARKING_LISTS = 256, AWAKENED_AT_ONCE = 64, UNPARKED = 0, PARKED = 1, LEAST_PAUSE = 64, MOST_PAUSE = 4096 };
 
 /* Why a thread waits: told.c says so of each but those that are the library's own. */
 enum why { ON_ADDRESS, ON_VARIABLE, AT_BARRIER, FOR_ONCE, FOR_CALLBACKS, OF_LIBRARY };
@@ -14,7 +14,8 @@ struct parked {
     struct parked *earlier, *later;
     enum why why;
     DWORD id;
-    uint32_t looks, waits;         /* how often it looks at its word before it sleeps, and how often it has waited */
+    uint32_t looks;                /* how often it looks at its word before it sleeps; */
+    uint32_t pause, left;          /* how many waits lie between two tries whether looks help, and are left until the next */
 };
 #ifndef own_place /* (A test may have threads of its own making.) */
 static _Thread_local struct parked own_place __attribute__((tls_model("initial-exec")));
@@ -67,13 +68,24 @@ static inline bool is_unparked(void)
     return atomic_load_explicit(&own_place.word, memory_order_acquire) == UNPARKED;
 }
 
+/* How often the caller looks at its word now. A try that was in vain makes the pause until the next twice as long. */
+static uint32_t looks_when_parked(void)
+{
+    if (own_place.left-- > 0)
+        return own_place.looks;
+    own_place.pause = own_place.pause < LEAST_PAUSE ? LEAST_PAUSE : own_place.pause < MOST_PAUSE ? 2 * own_place.pause : MOST_PAUSE;
+    own_place.left = own_place.pause;
+    return process.looks ? LOOKS_AT_WORD : 0;
+}
+
 /* Looks at the caller's word before it sleeps, the next time half as often where that was in vain. */
 static bool look_whether_unparked(void)
 {
-    const uint32_t looks = own_place.waits++ % RETRIES == 0 && process.looks ? LOOKS_AT_WORD : own_place.looks;
+    const uint32_t looks = looks_when_parked();
     for (uint32_t i = 0; i < looks; i++) {
         if (is_unparked()) {
             own_place.looks = LOOKS_AT_WORD;
+            own_place.pause = 0;
             return true;
         }
         rest();
