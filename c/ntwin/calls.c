@@ -9,15 +9,16 @@ enum { COUNT_AT = 18, MOST_COUNT = 0x3FFE }; /* (No pseudo handle has such a cou
 static HANDLE give_handle(uint32_t number)
 {
     const uint32_t count = waiting.given[number] >> COUNT_AT, value = (count < MOST_COUNT ? count + 1 : 1) << COUNT_AT | number << 2;
-    waiting.given[number] = value;
+    __atomic_store_n(&waiting.given[number], value, __ATOMIC_RELAXED);
     return (HANDLE)(uintptr_t)value;
 }
 
-/* The number of a handle that is no pseudo handle, under the lock; NO_HANDLE if the program has no such handle. */
+/* The number of a handle that is no pseudo handle; NO_HANDLE if the program has no such handle. Under the lock, or where the program has that handle
+ * for as long as its call lasts. */
 static inline uint32_t listed_number_of(HANDLE handle)
 {
     const uint32_t value = (uint32_t)(uintptr_t)handle, number = value >> 2 & (NT_MAXIMUM_HANDLES - 1);
-    return waiting.given[number] == (value & ~3u) ? number : NO_HANDLE;
+    return __atomic_load_n(&waiting.given[number], __ATOMIC_RELAXED) == (value & ~3u) ? number : NO_HANDLE;
 }
 
 /* The number of a handle, under the lock, which may be the caller's pseudo handle of itself. */
@@ -53,7 +54,7 @@ static void name_same_thread(uint32_t number, uint32_t other)
 static void forget_past(uint32_t number)
 {
     struct past *past = waiting.pasts[number];
-    waiting.pasts[number] = NULL;
+    __atomic_store_n(&waiting.pasts[number], NULL, __ATOMIC_RELAXED);
     if (--past->handles > 0)
         return;
     free(past->seat.life.description);
@@ -72,7 +73,7 @@ static uint32_t close_number(struct seat *caller, uint32_t number)
     look_for_timers();
     if (refused != 0)
         return refused;
-    waiting.given[number] |= IS_CLOSED;
+    __atomic_store_n(&waiting.given[number], waiting.given[number] | IS_CLOSED, __ATOMIC_RELAXED);
     if (waiting.named[number] != NULL)
         forget_named(caller, number);
     if (waiting.pasts[number] != NULL) {

@@ -12,6 +12,7 @@ static void name_thread(uint32_t number, const struct seat *seat)
 static void add_spare(struct seat *seat, uint32_t handle)
 {
     free(seat->life.description);
+    renew_ending(seat);
     *seat = (struct seat){ .number = seat->number, .handle = handle, .looks = process.looks ? LOOKS_AT_WORD : 0, .next = waiting.spare };
     name_thread(handle, seat);
     waiting.spare = seat;
@@ -43,7 +44,7 @@ static bool set_aside(struct seat *seat, struct past *past)
     seat->life.description = NULL;
     for (uint32_t number = 0; number < NT_MAXIMUM_HANDLES; number++)
         if (waiting.threads[number] == seat->number && waiting.kinds[number] == KIND_THREAD && waiting.pasts[number] == NULL && is_open(number)) {
-            waiting.pasts[number] = past;
+            __atomic_store_n(&waiting.pasts[number], past, __ATOMIC_RELEASE);
             past->handles++;
         }
     return true;
@@ -143,6 +144,7 @@ static void leave(struct seat *seat)
     if (nt_close_handle(&waiting.dispatcher, seat->number, seat->handle, &seat->reply) == 0)
         note(seat);
     if (nt_exit(&waiting.dispatcher, seat->number, &seat->reply) == 0) {
+        tell_ending(seat);
         note(seat);
         look_for_timers();
         end_seat(seat);

@@ -237,10 +237,106 @@ static void ports(void)
     stepped.before = NULL;
 }
 
+/* ---- A thread's exit code, which is read without the lock. */
+
+static HANDLE ended;
+static struct seat *place;
+
+static DWORD WINAPI end_with(LPVOID code)
+{
+    return (DWORD)(uintptr_t)code;
+}
+
+/* A thread has ended with 7, and its handle is open. */
+static void seven_has_ended(void)
+{
+    ended = CreateThread(NULL, 0, end_with, (LPVOID)7, 0, NULL);
+    must(ended != NULL && WaitForSingleObject(ended, INFINITE) == WAIT_OBJECT_0);
+    place = seat_of(listed_number_of(ended));
+}
+
+/* Its place is given to another, which ends with 8. */
+static void another_ends_there(void)
+{
+    struct past *past = calloc(1, sizeof *past);
+    must(join() != NULL && past != NULL);
+    take_lock();
+    must(set_aside(place, past));
+    renew_seats();
+    must(waiting.spare == place);
+    give_lock();
+    HANDLE next = CreateThread(NULL, 0, end_with, (LPVOID)8, 0, NULL);
+    must(next != NULL && seat_of(listed_number_of(next)) == place);
+    must(WaitForSingleObject(next, INFINITE) == WAIT_OBJECT_0 && CloseHandle(next));
+}
+
+static void read_seven(void)
+{
+    DWORD code = 0;
+    must(GetExitCodeThread(ended, &code) && code == 7);
+}
+
+static void close_ended(void)
+{
+    must(CloseHandle(ended));
+}
+
+/* A thread ends while another waits for it: who learns of its end finds its code. */
+static struct seat *waits_for_end;
+
+static DWORD WINAPI wait_for_end(LPVOID thread)
+{
+    waits_for_end = own.seat;
+    must(WaitForSingleObject(thread, INFINITE) == WAIT_OBJECT_0);
+    return 0;
+}
+
+static HANDLE who_waits, who_ends;
+
+static void begin_to_be_waited_for(void)
+{
+    must(DuplicateHandle(GetCurrentProcess(), GetCurrentThread(), GetCurrentProcess(), &who_ends, 0, FALSE, DUPLICATE_SAME_ACCESS));
+    place = own.seat;
+    place->exit_code = 9;
+    who_waits = CreateThread(NULL, 0, wait_for_end, who_ends, 0, NULL);
+    must(who_waits != NULL);
+    for (struct nt_pending_wait wait; waits_for_end == NULL || nt_waits_for(&waiting.dispatcher, waits_for_end->number, &wait) != 0;)
+        doze();
+}
+
+static void find_code_where_end_is_known(void)
+{
+    const bool is_known = atomic_load(&waits_for_end->word) == IS_GRANTED;
+    must(!is_known || (endings[place->number].has_left && endings[place->number].code == 9));
+}
+
+static void end_to_be_waited_for(void)
+{
+    must(WaitForSingleObject(who_waits, INFINITE) == WAIT_OBJECT_0 && CloseHandle(who_waits) && CloseHandle(who_ends));
+    waits_for_end = NULL;
+}
+
+static void come_in_first(void)
+{
+    must(join() != NULL);
+}
+
+static void exit_codes(void)
+{
+    stepped.before = come_in_first;
+    try_pair("GetExitCodeThread, and the place is another's", seven_has_ended, read_seven, another_ends_there, close_ended, 10);
+    is_of_lock = stepped.to_the_end = true;
+    stepped.before = begin_to_be_waited_for;
+    try_pair("a thread ends, and is waited for", nothing, nothing, find_code_where_end_is_known, end_to_be_waited_for, 100);
+    is_of_lock = stepped.to_the_end = false;
+    stepped.before = NULL;
+}
+
 int main(void)
 {
     begin_pairs();
     sections_and_others();
     ports();
+    exit_codes();
     return counted_checks();
 }

@@ -44,6 +44,27 @@ static void end_life(struct seat *seat)
     }
 }
 
+/* ---- With which code a thread has ended, for who asks without the lock (win32/threads.c). The code of a place tells of its last thread until the
+ * place is another's: then each handle of the last one is given its past before. */
+
+static struct ending {
+    _Atomic uint32_t has_left, code;
+} endings[NT_MANY_THREADS];
+
+/* The caller has ended, under the lock; nobody knows that yet who waits for it. */
+static void tell_ending(const struct seat *seat)
+{
+    struct ending *ending = &endings[seat->number];
+    atomic_store_explicit(&ending->code, seat->exit_code, memory_order_release);
+    atomic_store_explicit(&ending->has_left, true, memory_order_release);
+}
+
+/* The place is another thread's from now on, under the lock. */
+static void renew_ending(const struct seat *seat)
+{
+    atomic_store_explicit(&endings[seat->number].has_left, false, memory_order_release);
+}
+
 /* The caller, which was created suspended, sleeps until it was resumed as often. */
 static void wait_to_begin(struct seat *seat)
 {

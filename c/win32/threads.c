@@ -15,7 +15,21 @@ static struct seat *begin_with_thread(HANDLE handle, struct seat **caller)
     return seat_of(number);
 }
 
-BOOL GetExitCodeThread(HANDLE thread, LPDWORD code)
+/* Reads it without the lock. False where that can't be: the caller has no seat, the handle names no thread, or one whose place was given to another,
+ * before its code was read or since; or a scheduler has to learn of it, or a sanitizer. */
+static inline bool read_exit_code(HANDLE thread, DWORD *code)
+{
+    const uint32_t number = listed_number_of(thread);
+    if (number == NO_HANDLE || kind_of(number) != KIND_THREAD || own.seat == NULL || by_schedule() || is_told())
+        return false;
+    struct ending *ending = &endings[thread_of(number)];
+    const bool has_left = atomic_load_explicit(&ending->has_left, memory_order_acquire);
+    *code = has_left ? atomic_load_explicit(&ending->code, memory_order_acquire) : STILL_ACTIVE;
+    return __atomic_load_n(&waiting.pasts[number], __ATOMIC_ACQUIRE) == NULL;
+}
+
+/* The same as a call. */
+__attribute__((noinline, cold)) static BOOL ask_for_exit_code(HANDLE thread, LPDWORD code)
 {
     struct seat *caller, *seat = begin_with_thread(thread, &caller);
     if (seat == NULL)
@@ -23,6 +37,15 @@ BOOL GetExitCodeThread(HANDLE thread, LPDWORD code)
     const DWORD found = seat->has_left ? seat->exit_code : STILL_ACTIVE;
     unlock_and_wake(caller);
     *code = found;
+    return TRUE;
+}
+
+BOOL GetExitCodeThread(HANDLE thread, LPDWORD code)
+{
+    DWORD read;
+    if (!read_exit_code(thread, &read))
+        return ask_for_exit_code(thread, code);
+    *code = read;
     return TRUE;
 }
 
