@@ -4,7 +4,7 @@
 #   make quick                 what a change breaks at once, with no proof: ./gate quick
 #   make check                 the tests of the whole repository, with each proof: ./gate
 #   make check-all             the same with every mutant, case and planted fault: ./gate all
-#   make bench                 bench/core and bench/sizes, over proved programs; bench/README.md has more
+#   make bench                 each bench, over proved programs, and the tables of docs/PERFORMANCE.md anew (bench/all)
 #   make install PREFIX=DIR    headers, libraries, man pages, and files for pkg-config and cmake; DESTDIR comes before DIR
 #   make uninstall PREFIX=DIR  takes them away
 #   make dist                  an archive and Debian packages in dist, which need no kit, of what is proved; UNPROVED=1: of what is there
@@ -41,8 +41,9 @@ check-all:
 bench:
 	$(MAKE) --no-print-directory -C c proved
 	cd crates/nt_bench && $(RT) run > /dev/null
-	$(BY_ITSELF) bench/core
-	$(BY_ITSELF) bench/sizes
+	cd crates/nt_front_bench && $(RT) run > /dev/null
+	$(BY_ITSELF) ./ntrun --proved script examples/hand_over.nts > /dev/null
+	$(BY_ITSELF) bench/all
 
 install:
 	$(MAKE) --no-print-directory -C c install $(PLACES)

@@ -1,92 +1,36 @@
-/* What a program that is written for Windows pays for waitable objects: one source, compiled over c/win, over WinPR (-DOVER_WINPR), or for
-   Wine, for bench/porter.
-
-   usage: porter SHAPE ROUNDS: prints a line for each thing that was timed: its name, how many calls that were, and picoseconds a call (or,
-   of `bytes`, how many objects were made, and how many bytes of the process's memory one takes) */
-#define _GNU_SOURCE
-#if defined OVER_WINPR
-#include <winpr/handle.h>
-#include <winpr/synch.h>
-#include <winpr/thread.h>
-#else
-#include <windows.h>
-#endif
-#include <stdbool.h>
-#include <stdint.h>
-#include <stdio.h>
-#include <stdlib.h>
-#include <string.h>
-#include <time.h>
+/* Waitable objects, as programs use them, for bench/users. */
+#include "users.h"
 #include <unistd.h>
 
-enum { MANY = 64, TIMERS = 10000, TURNS = 20 };
+enum { TIMERS = 10000 };
 
-static void must(bool holds)
-{
-    if (!holds) {
-        fputs("a call did not answer what it has to\n", stderr);
-        exit(1);
-    }
-}
-
-static uint64_t now(void)
-{
-    struct timespec t;
-    clock_gettime(CLOCK_MONOTONIC, &t);
-    return (uint64_t)t.tv_sec * 1000000000u + (uint64_t)t.tv_nsec;
-}
-
-static uint64_t ROUNDS;
-
-/* Writes how long that number of calls took. */
-static void tell(const char *what, uint64_t calls, uint64_t took)
-{
-    printf("%s: %llu calls, %llu ps a call\n", what, (unsigned long long)calls, (unsigned long long)(took * 1000 / calls));
-}
-
-/* Makes a round, which is a number of calls, ROUNDS times, and this several times over; writes the least time. (Another process may take the
-   processor in the midst of one.) */
-#define TIME(what, calls, ...) \
-    do { \
-        uint64_t least = UINT64_MAX; \
-        for (int turn = 0; turn < TURNS; turn++) { \
-            const uint64_t began = now(); \
-            for (uint64_t i = 0; i < ROUNDS; i++) \
-                must(__VA_ARGS__); \
-            const uint64_t took = now() - began; \
-            least = took < least ? took : least; \
-        } \
-        tell(what, (calls)*ROUNDS, least); \
-    } while (0)
-
-/* A manual-reset event. (WinPR resets no event by itself.) */
-static HANDLE event(BOOL set)
+HANDLE event(BOOL set)
 {
     HANDLE made = CreateEventA(NULL, TRUE, set, NULL);
     must(made != NULL);
     return made;
 }
 
-static HANDLE semaphore(void)
+HANDLE semaphore(void)
 {
     HANDLE made = CreateSemaphoreA(NULL, 0, INT32_MAX, NULL);
     must(made != NULL);
     return made;
 }
 
-static bool take(HANDLE it)
+bool take(HANDLE it)
 {
     return WaitForSingleObject(it, INFINITE) == WAIT_OBJECT_0;
 }
 
-static HANDLE start(LPTHREAD_START_ROUTINE what, void *with)
+HANDLE start(LPTHREAD_START_ROUTINE what, void *with)
 {
     HANDLE thread = CreateThread(NULL, 0, what, with, 0, NULL);
     must(thread != NULL);
     return thread;
 }
 
-/* ---- One thread calls: by itself, or beside a thread that waits, as there mostly is one where a program needs such objects. */
+/* ---- One thread calls: by itself, or beside a thread that waits. */
 
 static HANDLE READY, LAST;
 
@@ -115,15 +59,26 @@ static void semaphore_rounds(const char *name)
     TIME(name, 2, ReleaseSemaphore(it, 1, NULL) && take(it));
 }
 
-static void beside(void (*rounds)(const char *), const char *name)
+HANDLE start_to_rest(void)
 {
     READY = event(FALSE);
     LAST = event(FALSE);
     HANDLE thread = start(rest, NULL);
     must(take(READY));
     Sleep(10);
-    rounds(name);
+    return thread;
+}
+
+void end_rest(HANDLE thread)
+{
     must(SetEvent(LAST) && take(thread));
+}
+
+static void beside(void (*rounds)(const char *), const char *name)
+{
+    HANDLE thread = start_to_rest();
+    rounds(name);
+    end_rest(thread);
 }
 
 static void event_beside(const char *name) { beside(event_rounds, name); }
@@ -144,10 +99,41 @@ static void any_of_64(const char *name) { wait_for(name, 64, FALSE); }
 static void all_of_8(const char *name) { wait_for(name, 8, TRUE); }
 static void all_of_64(const char *name) { wait_for(name, 64, TRUE); }
 
-static void created_and_closed(const char *name)
+static bool is_closed(HANDLE made)
 {
-    TIME(name, 2, CloseHandle(event(FALSE)));
+    return made != NULL && CloseHandle(made);
 }
+
+static void event_made(const char *name)
+{
+    TIME(name, 2, is_closed(CreateEventA(NULL, TRUE, FALSE, NULL)));
+}
+
+static void mutex_made(const char *name)
+{
+    TIME(name, 2, is_closed(CreateMutexA(NULL, FALSE, NULL)));
+}
+
+#if !defined OVER_WINPR /* (It has these names, and does nothing.) */
+static void duplicate(const char *name)
+{
+    HANDLE it = event(FALSE), other = NULL;
+    TIME(name, 2, DuplicateHandle(GetCurrentProcess(), it, GetCurrentProcess(), &other, 0, FALSE, DUPLICATE_SAME_ACCESS) && CloseHandle(other));
+}
+
+static void opened(const char *name)
+{
+    must(CreateEventA(NULL, TRUE, FALSE, "users") != NULL);
+    TIME(name, 2, is_closed(OpenEventA(EVENT_ALL_ACCESS, FALSE, "users")));
+}
+
+/* Signals an event that is reset by the wait for it. */
+static void swap(const char *name)
+{
+    HANDLE it = CreateEventA(NULL, FALSE, FALSE, NULL);
+    TIME(name, 1, SignalObjectAndWait(it, it, INFINITE, FALSE) == WAIT_OBJECT_0);
+}
+#endif
 
 static const LARGE_INTEGER IN_AN_HOUR = { .QuadPart = -36000000000LL };
 static HANDLE ALL[TIMERS];
@@ -167,15 +153,15 @@ static void timers(const char *name)
     } steps[] = { { "timers_made", timer_is_made }, { "timers_set", timer_is_set }, { "timers_cancelled", timer_is_cancelled },
                   { "timers_closed", timer_is_closed } };
     enum { STEPS = sizeof steps / sizeof *steps };
-    uint64_t least[STEPS];
+    struct moment least[STEPS];
     (void)name;
     for (uint64_t turn = 0; turn < ROUNDS; turn++)
         for (int step = 0; step < STEPS; step++) {
-            const uint64_t began = now();
+            const struct moment began = now();
             for (int i = 0; i < TIMERS; i++)
                 must(steps[step].does(i));
-            const uint64_t took = now() - began;
-            least[step] = turn == 0 || took < least[step] ? took : least[step];
+            const struct moment ended = now(), took = { ended.time - began.time, ended.used - began.used };
+            least[step] = turn == 0 || took.time < least[step].time ? took : least[step];
         }
     for (int step = 0; step < STEPS; step++)
         tell(steps[step].name, TIMERS, least[step]);
@@ -219,14 +205,14 @@ static void round_trip(const char *name)
     THERE = semaphore();
     BACK = semaphore();
     HANDLE other = start(answer, NULL);
-    const uint64_t began = now();
+    const struct moment began = now();
     for (uint64_t i = 0; i < ROUNDS; i++)
         must(ReleaseSemaphore(THERE, 1, NULL) && take(BACK));
-    tell(name, 4 * ROUNDS, now() - began);
+    tell_since(name, 4 * ROUNDS, began);
     must(take(other));
 }
 
-/* Workers take one mutex, release a semaphore and release the mutex. They begin together. */
+/* Workers begin together. Each takes one mutex, releases a semaphore and releases the mutex; or takes and releases the mutex alone. */
 static HANDLE SHARED, COUNTED, BEGIN;
 static uint64_t SUM;
 
@@ -242,31 +228,43 @@ static DWORD WINAPI work(LPVOID unused)
     return 0;
 }
 
-static void workers(const char *name, DWORD count)
+static DWORD WINAPI lock_alone(LPVOID unused)
+{
+    (void)unused;
+    must(take(BEGIN));
+    for (uint64_t i = 0; i < ROUNDS; i++) {
+        must(take(SHARED));
+        SUM++;
+        must(ReleaseMutex(SHARED));
+    }
+    return 0;
+}
+
+static void together(const char *name, DWORD count, uint64_t calls, LPTHREAD_START_ROUTINE each)
 {
     HANDLE threads[MANY];
     SHARED = CreateMutexA(NULL, FALSE, NULL);
     COUNTED = semaphore();
     BEGIN = event(FALSE);
     for (DWORD i = 0; i < count; i++)
-        threads[i] = start(work, NULL);
+        threads[i] = start(each, NULL);
     Sleep(20);
-    const uint64_t began = now();
+    const struct moment began = now();
     must(SetEvent(BEGIN));
     for (DWORD i = 0; i < count; i++)
         must(take(threads[i]));
     must(SUM == count * ROUNDS);
-    tell(name, 3 * count * ROUNDS, now() - began);
+    tell_since(name, calls * count * ROUNDS, began);
 }
 
-static void workers_2(const char *name) { workers(name, 2); }
-static void workers_8(const char *name) { workers(name, 8); }
-static void workers_64(const char *name) { workers(name, 64); }
+static void workers_2(const char *name) { together(name, 2, 3, work); }
+static void workers_8(const char *name) { together(name, 8, 3, work); }
+static void workers_64(const char *name) { together(name, 64, 3, work); }
+static void lock_2(const char *name) { together(name, 2, 2, lock_alone); }
+static void lock_8(const char *name) { together(name, 8, 2, lock_alone); }
+static void lock_64(const char *name) { together(name, 64, 2, lock_alone); }
 
-static const struct {
-    const char *name;
-    void (*run)(const char *name);
-} SHAPES[] = {
+const struct shape OBJECT_SHAPES[] = {
     { "event", event_rounds },
     { "event_beside", event_beside },
     { "mutex", mutex_rounds },
@@ -281,19 +279,17 @@ static const struct {
     { "workers_2", workers_2 },
     { "workers_8", workers_8 },
     { "workers_64", workers_64 },
-    { "created_and_closed", created_and_closed },
+    { "lock_2", lock_2 },
+    { "lock_8", lock_8 },
+    { "lock_64", lock_64 },
+    { "event_made", event_made },
+    { "mutex_made", mutex_made },
+#if !defined OVER_WINPR
+    { "swap", swap },
+    { "duplicate", duplicate },
+    { "opened", opened },
+#endif
     { "timers", timers },
     { "bytes", bytes },
+    { NULL, NULL },
 };
-
-int main(int count, char **words)
-{
-    must(count == 3);
-    ROUNDS = strtoull(words[2], NULL, 10);
-    for (size_t i = 0; i < sizeof SHAPES / sizeof *SHAPES; i++)
-        if (strcmp(words[1], SHAPES[i].name) == 0) {
-            SHAPES[i].run(SHAPES[i].name);
-            return 0;
-        }
-    return 2;
-}
