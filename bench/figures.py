@@ -4,6 +4,7 @@ import json
 import os
 
 TOP = os.path.dirname(os.path.dirname(os.path.abspath(__file__)))
+KEPT = f"{TOP}/out/bench"
 
 
 def load():
@@ -13,19 +14,18 @@ def load():
 
 def keep(bench, rows):
     """Keeps what a bench found: for each row, by what it is called, a number for each column. Other rows and columns are kept as they were."""
-    path = f"{TOP}/out/bench/{bench}.json"
-    os.makedirs(os.path.dirname(path), exist_ok=True)
+    os.makedirs(KEPT, exist_ok=True)
     before = kept(bench)
     for row, columns in rows.items():
         before.setdefault(row, {}).update(columns)
-    with open(path, "w", encoding="utf-8") as file:
+    with open(f"{KEPT}/{bench}.json", "w", encoding="utf-8") as file:
         json.dump(before, file, indent=1)
 
 
 def kept(bench):
     """What was kept of a bench; nothing if it was not run."""
     try:
-        with open(f"{TOP}/out/bench/{bench}.json", encoding="utf-8") as file:
+        with open(f"{KEPT}/{bench}.json", encoding="utf-8") as file:
             return json.load(file)
     except FileNotFoundError:
         return {}
