@@ -88,7 +88,9 @@ class Workshop:
             done = subprocess.run(words, timeout=SECONDS_EACH, text=True, errors="replace", **how)
         except subprocess.TimeoutExpired:
             return f"not done after {SECONDS_EACH} s"
-        return None if done.returncode == 0 else f"status {done.returncode}: {(done.stdout.strip().splitlines() or [''])[-1][:120]}"
+        lines = done.stdout.strip().splitlines() or [""]
+        told = next((it for it in lines if it.startswith("ntwin: schedule ")), lines[-1])
+        return None if done.returncode == 0 else f"status {done.returncode}: {told[:120]}"
 
 
 def counted(failed_of):
