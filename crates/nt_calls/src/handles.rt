@@ -8,11 +8,8 @@ ghost use Rattle.nt_calls.specs.Naming.{object_named, lacks};
 
 use arrayvec::ArrayVec;
 use nt_objects::Object;
-use nt_status::{Handle, MAX_HANDLES, ObjectNumber};
+use nt_status::{Handle, ObjectNumber};
 use nt_tables::HandleTable;
-
-/// A number that no object has: the numbers of objects are below it.
-const NO_OBJECT: u32 = MAX_HANDLES as u32;
 
 /// SYNCHRONIZE.
 pub const SYNCHRONIZE: u32 = 0x0010_0000;
@@ -33,7 +30,7 @@ pub type NamedObjects<const N: usize> = ArrayVec<ObjectNumber, N>;
 pub fn object_named(handles: &HandleTable, handle: Handle) -> ObjectNumber
     ensures { result ≡ object_named handles.now.opened handle }
 {
-    handles.object_or(handle, ObjectNumber::new(NO_OBJECT))
+    handles.object_number(handle)
 }
 
 /// What the handle names: the number of its object, and one that no object has where it names none. Answers also whether the

@@ -1,16 +1,16 @@
 -- What each handle names, as callers of `HandleTable` see it.
 use Rattle.std.specs.Prelude.{◌≡◌, ℕ, zero, suc, ◌+◌, Bool, false, ◌==◌, List, [], ◌∷◌, ◌++◌, length, slice_index_or, if◌then◌else◌, Option, Some, None}
+use Rattle.nt_status.specs.declared.limits.TheConstants.{MAX_HANDLES}
 use Rattle.nt_tables.specs.declared.handles.Opened.{Opened}
 
--- what a row of the table says: one above the number of an object, with rights to it, or 0 for nothing
+-- what a row of the table says: the number of an object, with rights to it, or for nothing the number that no object has
 abbrev pub opened_in_row : ℕ → ℕ → Option Opened
-opened_in_row zero access = None
-opened_in_row (suc object) access = Some (record { object = object; access = access })
+opened_in_row object access = if object == MAX_HANDLES then None else Some (record { object = object; access = access })
 
--- one above the number of the object, and 0 for none
-abbrev pub above_of : Option Opened → ℕ
-above_of None = 0
-above_of (Some opened) = opened.object + 1
+-- the number of the object, and for none the number that no object has
+abbrev pub number_of : Option Opened → ℕ
+number_of None = MAX_HANDLES
+number_of (Some opened) = opened.object
 
 -- the rights to it, and no right to nothing
 abbrev pub rights_of : Option Opened → ℕ

@@ -1,9 +1,10 @@
 //! What each handle names.
-ghost use Rattle.std.specs.Prelude.{◌≡◌, ◌↔◌, true, ◌<◌, ◌≤◌, ◌+◌, ◌-◌, ◌++◌, ◌∷◌, ◌^◌, [], None, Some, length, slice_set, slice_index_or, vec_len, vec_capacity, IsSome, IfOk, OnOk, MatchOption};
+ghost use Rattle.std.specs.Prelude.{◌≡◌, ◌↔◌, true, ◌<◌, ◌≤◌, ◌+◌, ◌-◌, ◌++◌, ◌∷◌, ◌^◌, [], None, Some, length, slice_set, slice_index_or, vec_len, vec_capacity, IsSome, IfOk, OnOk};
 ghost use Rattle.std.specs.Option.{ForSome};
-ghost use Rattle.nt_tables.specs.Handles.{opened_at, rights_of, count_named, own_handles, AreHandlesCounted};
+ghost use Rattle.nt_status.specs.declared.limits.TheConstants.{MAX_HANDLES};
+ghost use Rattle.nt_tables.specs.Handles.{opened_at, number_of, rights_of, count_named, own_handles, AreHandlesCounted};
 
-use nt_status::{Access, Handle, ObjectNumber};
+use nt_status::{Access, Handle, MAX_HANDLES, ObjectNumber};
 use std::alloc::{AllocError, Global};
 use std::marker::Model;
 
@@ -15,41 +16,46 @@ pub struct Opened {
     pub access: Access,
 }
 
-/// What a handle names, or nothing once it is closed, in eight bytes. (An `Option<Opened>` takes twelve.)
+/// A number that no object has: there are no more handles than this, and no more objects than handles.
+const NO_OBJECT: u32 = MAX_HANDLES as u32;
+
+/// What a handle names, or nothing once it is closed, in eight bytes. (An `Option<Opened>` takes twelve.) Whoever reads one of its two
+/// numbers tests nothing.
 #[derive(Clone, Copy)]
 struct Row {
-    /// One above the number of the object, and 0 where it names nothing.
-    above: u32,
+    /// The number of the object, and `NO_OBJECT` where it names nothing.
+    object: u32,
     access: Access,
 }
 
 impl Model for Row {
     ghost use Rattle.std.specs.Prelude.{◌≡◌, Option};
     ghost use Rattle.nt_tables.specs.declared.handles.Opened.{Opened};
-    ghost use Rattle.nt_tables.specs.Handles.{opened_in_row, above_of, rights_of};
+    ghost use Rattle.nt_status.specs.declared.limits.TheConstants.{MAX_HANDLES};
+    ghost use Rattle.nt_tables.specs.Handles.{opened_in_row, number_of, rights_of};
 
     ghost Value = { Option Opened };
 
-    ghost view = { λ r. opened_in_row r.above r.access };
+    ghost view = { λ r. opened_in_row r.object r.access };
 
-    ghost invariant = { λ r. r.above ≡ 0 → r.access ≡ 0 };
+    ghost invariant = { λ r. r.object ≡ MAX_HANDLES → r.access ≡ 0 };
 
-    ghost inverse = { λ opened. record { above = above_of opened; access = rights_of opened } };
+    ghost inverse = { λ opened. record { object = number_of opened; access = rights_of opened } };
 }
 
 impl Row {
     /// It names nothing, and has no right.
     const CLOSED: Row = Row {
-        above: 0,
+        object: NO_OBJECT,
         access: Access::NONE,
     };
 
     fn new(opened: Opened) -> Self
-        requires { opened.object < 2 ^ 32 - 1 }
+        requires { opened.object < MAX_HANDLES }
         ensures { result ≡ Some opened }
     {
         Row {
-            above: opened.object.get() + 1,
+            object: opened.object.get(),
             access: opened.access,
         }
     }
@@ -58,24 +64,20 @@ impl Row {
     fn get(self) -> Option<Opened>
         ensures { result ≡ self }
     {
-        if self.above == 0 {
+        if self.object == NO_OBJECT {
             return None;
         }
         Some(Opened {
-            object: ObjectNumber::new(self.above - 1),
+            object: ObjectNumber::new(self.object),
             access: self.access,
         })
     }
 
-    /// The number of the object that it names, and the other number where it names nothing.
-    fn object_or(self, other: ObjectNumber) -> ObjectNumber
-        ensures { MatchOption self (result ≡ other) (λ opened. result ≡ opened.object) }
+    /// The number of the object that it names, and `NO_OBJECT` where it names nothing.
+    fn number(self) -> ObjectNumber
+        ensures { result ≡ number_of self }
     {
-        if self.above == 0 {
-            other
-        } else {
-            ObjectNumber::new(self.above - 1)
-        }
+        ObjectNumber::new(self.object)
     }
 
     /// The rights to what it names, and none where it names nothing.
@@ -129,7 +131,7 @@ fn open(handles: &mut Vec<Row>, counts: &mut Vec<u32>, opened: Opened)
     requires handle_room { vec_len handles.old < vec_capacity handles.old }
     requires count_room { vec_len counts.old < vec_capacity counts.old }
     requires known { opened.object ≤ length handles.old.items }
-    requires few { length handles.old.items < 2 ^ 32 - 1 }
+    requires few { length handles.old.items < MAX_HANDLES }
     ensures handles { handles.new.items ≡ handles.old.items ++ Some opened ∷ [] }
     ensures counted { AreHandlesCounted handles.new.items counts.new.items }
 {
@@ -144,7 +146,7 @@ fn open_again(handles: &mut [Row], counts: &mut Vec<u32>, handle: Handle, opened
     requires there { handle < length handles.old }
     requires closed { opened_at handles.old handle ≡ None }
     requires known { opened.object < length handles.old }
-    requires few { length handles.old < 2 ^ 32 - 1 }
+    requires few { length handles.old ≤ MAX_HANDLES }
     ensures handles { handles.new ≡ slice_set handles.old handle (Some opened) }
     ensures counted { AreHandlesCounted handles.new counts.new.items }
 {
@@ -200,17 +202,19 @@ pub struct HandleTable {
 }
 
 impl Model for HandleTable {
-    ghost use Rattle.std.specs.Prelude.{min, vec_capacity};
+    ghost use Rattle.std.specs.Prelude.{◌≤◌, length, min, vec_capacity};
+    ghost use Rattle.nt_status.specs.declared.limits.TheConstants.{MAX_HANDLES};
     ghost use Rattle.nt_tables.specs.Handles.{Handles, AreHandlesCounted};
 
     ghost Value = { Handles };
 
     ghost view = { λ t. record {
       opened = t.handles.items;
-      room = min (vec_capacity t.handles) (vec_capacity t.counts);
+      room = min MAX_HANDLES (min (vec_capacity t.handles) (vec_capacity t.counts));
     } };
 
-    ghost invariant = { λ t. AreHandlesCounted t.handles.items t.counts.items };
+    ghost invariant = { λ t. AreHandlesCounted t.handles.items t.counts.items
+        × (length t.handles.items ≤ MAX_HANDLES) };
 }
 
 impl HandleTable {
@@ -254,12 +258,12 @@ impl HandleTable {
         opened_in(&self.handles, handle)
     }
 
-    /// The number of the object that a handle names, and the other number where it names nothing. This and `rights` take fewer steps than
-    /// `get`, whose answer is packed into one word.
-    pub fn object_or(&self, handle: Handle, other: ObjectNumber) -> ObjectNumber
-        ensures { MatchOption (opened_at self.now.opened handle) (result ≡ other) (λ opened. result ≡ opened.object) }
+    /// The number of the object that a handle names, and 65,536, which no object has, where it names nothing. This and `rights` take fewer
+    /// steps than `get`, whose answer is packed into one word.
+    pub fn object_number(&self, handle: Handle) -> ObjectNumber
+        ensures { result ≡ number_of (opened_at self.now.opened handle) }
     {
-        row_in(&self.handles, handle).object_or(other)
+        row_in(&self.handles, handle).number()
     }
 
     /// The rights of a handle, and none where it names nothing.
@@ -286,11 +290,14 @@ impl HandleTable {
         are_like(&self.handles, &other.handles)
     }
 
-    /// Makes room for one handle more. Where memory is refused no handle changes.
+    /// Makes room for one handle more. Where memory is refused no handle changes. More than 65,536 are refused as memory is.
     pub fn make_room(&mut self) -> Result<(), AllocError>
         ensures room { OnOk result (length self.new.opened < self.new.room) }
         ensures opened { self.new.opened ≡ self.old.opened }
     {
+        if self.handles.len() >= MAX_HANDLES {
+            return Err(AllocError);
+        }
         self.handles.reserve(1)?;
         self.counts.reserve(1)?;
         Ok(())

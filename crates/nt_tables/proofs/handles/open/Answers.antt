@@ -1,3 +1,4 @@
+use Rattle.std.proofs.Common.{arith}
 use Rattle.nt_tables.proofs.Counting.{more_counted, few_counted}
 use Rattle.nt_tables.proofs.handles.open.Goals as goal
 
@@ -9,4 +10,4 @@ returns-clause-counted c =
 pub count_more-requires-clause-few : goal.count_more-requires-clause-few
 count_more-requires-clause-few c =
     rw c.push_reserved.ensures.items
-    (few_counted c.args.handles.now.items c.args.counts.now.items c.args.opened.object c.requires.counted c.requires.few)
+    (few_counted c.args.handles.now.items c.args.counts.now.items c.args.opened.object c.requires.counted (omega (arith, c.requires.few)))

@@ -1,3 +1,4 @@
+use Rattle.std.proofs.Common.{arith}
 use Rattle.nt_tables.proofs.Counting.{again_counted, few_again, known_again}
 use Rattle.nt_tables.proofs.handles.open_again.Goals as goal
 
@@ -12,4 +13,4 @@ count_more-requires-clause-known c =
 
 pub count_more-requires-clause-few : goal.count_more-requires-clause-few
 count_more-requires-clause-few c =
-    few_again c.args.handles.now c.args.counts.now.items c.args.opened.object c.requires.counted c.requires.few
+    few_again c.args.handles.now c.args.counts.now.items c.args.opened.object c.requires.counted (omega (arith, c.requires.few))
