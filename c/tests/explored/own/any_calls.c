@@ -57,6 +57,14 @@ static BOOL CALLBACK make_once(PINIT_ONCE at, PVOID unused, PVOID *context)
     return TRUE;
 }
 
+/* The thread of this number, or main: the handle of one that is made later may not be there yet, and that no call would order. */
+static HANDLE thread_at(int number)
+{
+    if (number == who)
+        return GetCurrentThread();
+    return threads[who == 0 || number < who ? number : 0];
+}
+
 static void call_on_objects(char letter, int it)
 {
     const HANDLE all[] = { events[0], semaphore }, any[] = { events[it], mutexes[0], semaphore };
@@ -77,7 +85,7 @@ static void call_on_objects(char letter, int it)
     case 'a': answer(letter_of(WaitForMultipleObjects(3, any, FALSE, INFINITE))); break;
     case 'A': answer(letter_of(WaitForMultipleObjects(2, all, TRUE, it == 0 ? INFINITE : 3))); break;
     case 'z': answer(letter_of(SignalObjectAndWait(events[it], events[1 - it], INFINITE, FALSE))); break;
-    case 'n': answer(QueueUserAPC(note_apc, threads[(who + 1 + it) % count], (ULONG_PTR)who) != 0 ? 'y' : 'n'); break;
+    case 'n': answer(QueueUserAPC(note_apc, thread_at((who + 1 + it) % count), (ULONG_PTR)who) != 0 ? 'y' : 'n'); break;
     case 'N': answer(letter_of(SleepEx(it == 0 ? 0 : 2, TRUE))); break;
     default: break;
     }
@@ -137,7 +145,7 @@ static void call_all(int number)
         if (at[0] == 'K')
             answer((char)('a' + (int)((uintptr_t)CreateEventA(NULL, FALSE, FALSE, NULL) >> 2) % 26));
         if (at[0] == 'U')
-            answer(GetExitCodeThread(threads[(number + 1) % count], &code) && code == STILL_ACTIVE ? 'y' : 'n');
+            answer(GetExitCodeThread(thread_at((number + 1) % count), &code) && code == STILL_ACTIVE ? 'y' : 'n');
         if (at[0] == 'X')
             exit(3);
     }
