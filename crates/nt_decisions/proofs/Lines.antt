@@ -1,13 +1,16 @@
 -- The first line of a text, and what comes after it.
-use Rattle.std.proofs.Common.{◌≡◌, ℕ, suc, ◌+◌, ◌-◌, ◌<◌, ◌≤◌, Bool, true, false, not, cond, List, [], ◌∷◌, ◌++◌, length, take, drop, get_or, append_assoc, position, unwrap_or, nat_lt, Option, Some, None, refl, sym, ap, ◌∙◌, arith}
+use Rattle.std.proofs.Common.{◌≡◌, ℕ, suc, ◌+◌, ◌-◌, ◌<◌, ◌≤◌, Bool, true, false, not, cond, List, [], ◌∷◌, ◌++◌, length, take, drop, get_or, append_assoc, position, unwrap_or, nat_lt, Option, Some, None, Result, Ok, Err, OnOk, refl, sym, ap, ◌∙◌, arith}
+use Rattle.std.specs.Bool.{if◌then◌else◌}
+use Rattle.std.specs.Result.{is_ok}
 use Rattle.std.specs.List.{slice_split, onto_first, position_or_len, after_first}
 use Rattle.std.proofs.lemmas.List.Splits.{slice_split-cons_no, slice_split_first}
 use Rattle.std.proofs.lemmas.List.{take_rest, take_more, drop_all}
 use Rattle.std.proofs.lemmas.List.Sums.{prefix_len-le-length}
 use Rattle.std.proofs.lemmas.Bool.{ltb-false}
 use Rattle.nt_decisions.specs.declared.decision.Decision.{Decision}
+use Rattle.nt_decisions.specs.declared.file.Time.{Time}
 use Rattle.nt_decisions.specs.declared.file.FileFault.{FileFault}
-use Rattle.nt_decisions.specs.Decisions.{decision_text, lines_text, IsFault, IsLineFault, is_end, lines_in, entry_in, read_on, free_in, first_in, both, file_of, EndsLine}
+use Rattle.nt_decisions.specs.Decisions.{decision_text, lines_text, IsFault, IsLineFault, is_end, lines_in, entry_in, read_on, time_in, first_in, both, file_of, EndsLine}
 
 -- a text that ends without a line feed is read as with one
 end_same : (read : Option (List Decision)) (line : List ℕ) → read_on read (line ∷ []) ≡ read_on read (line ∷ [] ∷ [])
@@ -70,11 +73,11 @@ fault_on FileFault.Line read lines none = ap (λ (x : Option (List Decision)). r
 fault_on FileFault.Memory read lines none = tt
 
 -- why the lines behind the first are no decisions is why the text is no file
-pub fault_in : (fault : FileFault) (text line left : List ℕ) (is_free : Bool) → EndsLine text line left → free_in line ≡ Some is_free → IsLineFault fault (read_on (Some []) (lines_in left)) → IsFault fault text
-fault_in FileFault.FirstLine text line left is_free ends first none = absurd none
-fault_in FileFault.Line text line left is_free ends first none =
-    (is_free, ends.first ∙ first, ends.file ∙ (ap (λ (x : Option Bool). both x (read_on (Some []) (lines_in left))) first ∙ ap (both (Some is_free)) none))
-fault_in FileFault.Memory text line left is_free ends first none = tt
+pub fault_in : (fault : FileFault) (text line left : List ℕ) (time : Time) → EndsLine text line left → time_in line ≡ Some time → IsLineFault fault (read_on (Some []) (lines_in left)) → IsFault fault text
+fault_in FileFault.FirstLine text line left time ends first none = absurd none
+fault_in FileFault.Line text line left time ends first none =
+    (time, ends.first ∙ first, ends.file ∙ (ap (λ (x : Option Time). both x (read_on (Some []) (lines_in left))) first ∙ ap (both (Some time)) none))
+fault_in FileFault.Memory text line left time ends first none = tt
 
 -- ---- lines that are written
 
@@ -91,3 +94,14 @@ put_more start out new decisions i d lt puts before =
     ∙ (ap (λ (x : List ℕ). x ++ (decision_text (get_or decisions i d) ++ 10 ∷ [])) before
     ∙ (append_assoc start (lines_text (take i decisions)) (decision_text (get_or decisions i d) ++ 10 ∷ [])
     ∙ ap (λ (x : List ℕ). start ++ x) (sym (lines_push (take i decisions) (get_or decisions i d)) ∙ ap lines_text (sym (take_more decisions i d lt)))))
+
+-- a line of three parts was put
+pub put_line : {X E : Type 0} (result : Result X E) (old one two three new first second third : List ℕ) → one ≡ old ++ first → two ≡ one ++ second → three ≡ two ++ third
+    → new ≡ (if is_ok result then three ++ 10 ∷ [] else three) → OnOk result (new ≡ old ++ ((first ++ (second ++ third)) ++ 10 ∷ []))
+put_line (Ok x) old one two three new first second third a b c q =
+    q
+    ∙ (ap (λ (l : List ℕ). l ++ 10 ∷ []) (c
+    ∙ (ap (λ (l : List ℕ). l ++ third) (b ∙ ap (λ (l : List ℕ). l ++ second) a)
+    ∙ (append_assoc (old ++ first) second third ∙ append_assoc old first (second ++ third))))
+    ∙ append_assoc old (first ++ (second ++ third)) (10 ∷ []))
+put_line (Err e) old one two three new first second third a b c q = tt

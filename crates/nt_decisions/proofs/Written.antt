@@ -12,7 +12,8 @@ use Rattle.nt_grammar.proofs.Plain.{decimal_digits, caller_of-decimal, number_of
 use Rattle.nt_grammar.proofs.Joining.{is_body, IsBody, AreBodies, weaker, digit_body, words_of-joined, plain-joined}
 use Rattle.nt_decisions.specs.declared.decision.Chosen.{Chosen}
 use Rattle.nt_decisions.specs.declared.decision.Decision.{Decision}
-use Rattle.nt_decisions.specs.Decisions.{chosen_word, decision_words, decision_text, lines_text, first_text, file_text, is_end, thread_in, chosen_in, joined, decision_in, pushed, entry_in, read_on, free_in, both, file_of, file_in, IsWritable, AreWritable}
+use Rattle.nt_decisions.specs.declared.file.Time.{Time}
+use Rattle.nt_decisions.specs.Decisions.{chosen_word, decision_words, decision_text, lines_text, first_text, file_text, is_end, thread_in, chosen_in, joined, decision_in, pushed, entry_in, read_on, time_of, time_in, both, file_of, file_in, IsWritable, AreWritable}
 
 -- ---- words
 
@@ -75,17 +76,21 @@ read_back front (it ∷ decisions) w =
 
 -- ---- a file
 
-first_plain : (is_free : Bool) → list_all is_plain (first_text is_free) ≡ true
-first_plain true = refl
-first_plain false = refl
+first_plain : (is_free is_still : Bool) → list_all is_plain (first_text (time_of is_free is_still)) ≡ true
+first_plain true true = refl
+first_plain true false = refl
+first_plain false true = refl
+first_plain false false = refl
 
-first_back : (is_free : Bool) (decisions : List Decision) → both (free_in (first_text is_free)) (Some decisions) ≡ Some (is_free, decisions)
-first_back true decisions = refl
-first_back false decisions = refl
+first_back : (is_free is_still : Bool) → time_in (first_text (time_of is_free is_still)) ≡ Some (time_of is_free is_still)
+first_back true true = refl
+first_back true false = refl
+first_back false true = refl
+first_back false false = refl
 
-pub file_back : (is_free : Bool) (decisions : List Decision) → AreWritable decisions → file_in (file_text is_free decisions) ≡ Some (is_free, decisions)
-file_back is_free decisions w =
-    ap file_of (slice_split_at is_end (first_text is_free) 10 (lines_text decisions) (no_end (first_text is_free) (first_plain is_free)) refl)
-    ∙ (ap (λ (lines : List (List ℕ)). both (free_in (first_text is_free)) (read_on (Some []) lines)) (lines_split decisions w)
-    ∙ (ap (λ (o : Option (List Decision)). both (free_in (first_text is_free)) o) (read_back [] decisions w)
-    ∙ first_back is_free decisions))
+pub file_back : (time : Time) (decisions : List Decision) → AreWritable decisions → file_in (file_text time decisions) ≡ Some (time, decisions)
+file_back time decisions w =
+    ap file_of (slice_split_at is_end (first_text time) 10 (lines_text decisions) (no_end (first_text time) (first_plain time.is_free time.is_still)) refl)
+    ∙ (ap (λ (lines : List (List ℕ)). both (time_in (first_text time)) (read_on (Some []) lines)) (lines_split decisions w)
+    ∙ (ap (λ (o : Option (List Decision)). both (time_in (first_text time)) o) (read_back [] decisions w)
+    ∙ ap (λ (o : Option Time). both o (Some decisions)) (first_back time.is_free time.is_still)))

@@ -8,6 +8,7 @@ use Rattle.nt_lines.specs.Words.{words_of, caller_of, digits_number}
 use Rattle.nt_grammar.specs.Spelling.{caller_word}
 use Rattle.nt_decisions.specs.declared.decision.Chosen.{Chosen}
 use Rattle.nt_decisions.specs.declared.decision.Decision.{Decision}
+use Rattle.nt_decisions.specs.declared.file.Time.{Time}
 use Rattle.nt_decisions.specs.declared.file.Schedule.{Schedule}
 use Rattle.nt_decisions.specs.declared.file.FileFault.{FileFault}
 
@@ -30,11 +31,15 @@ abbrev pub lines_text : List Decision → List ℕ
 lines_text [] = []
 lines_text (it ∷ decisions) = decision_text it ++ 10 ∷ lines_text decisions
 
-abbrev pub first_text : Bool → List ℕ
-first_text is_free = if is_free then codes "; ntwin-schedule 1 time=free" else codes "; ntwin-schedule 1"
+abbrev pub word_if : Bool → List ℕ → List ℕ
+word_if is_so word = if is_so then word else []
 
-abbrev pub file_text : Bool → List Decision → List ℕ
-file_text is_free decisions = first_text is_free ++ 10 ∷ lines_text decisions
+-- with a word more where the time is free, and where it is still
+abbrev pub first_text : Time → List ℕ
+first_text time = codes "; ntwin-schedule 1" ++ (word_if time.is_free (codes " time=free") ++ word_if time.is_still (codes " time=still"))
+
+abbrev pub file_text : Time → List Decision → List ℕ
+file_text time decisions = first_text time ++ 10 ∷ lines_text decisions
 
 -- ---- what is read
 
@@ -84,33 +89,38 @@ read_on None lines = None
 read_on (Some decisions) [] = Some decisions
 read_on (Some decisions) (line ∷ lines) = read_on (entry_in decisions line) lines
 
--- whether the time is free, by the first line
-abbrev pub free_in : List ℕ → Option Bool
-free_in line =
-    if bytes_eq line (codes "; ntwin-schedule 1") then Some false
-    else if bytes_eq line (codes "; ntwin-schedule 1 time=free") then Some true
+abbrev pub time_of : Bool → Bool → Time
+time_of is_free is_still = record { is_free = is_free; is_still = is_still }
+
+-- how the time goes, by the first line
+abbrev pub time_in : List ℕ → Option Time
+time_in line =
+    if bytes_eq line (codes "; ntwin-schedule 1") then Some (time_of false false)
+    else if bytes_eq line (codes "; ntwin-schedule 1 time=free") then Some (time_of true false)
+    else if bytes_eq line (codes "; ntwin-schedule 1 time=still") then Some (time_of false true)
+    else if bytes_eq line (codes "; ntwin-schedule 1 time=free time=still") then Some (time_of true true)
     else None
 
-abbrev pub both : Option Bool → Option (List Decision) → Option (Bool × List Decision)
+abbrev pub both : Option Time → Option (List Decision) → Option (Time × List Decision)
 both None decisions = None
-both (Some is_free) None = None
-both (Some is_free) (Some decisions) = Some (is_free, decisions)
+both (Some time) None = None
+both (Some time) (Some decisions) = Some (time, decisions)
 
-abbrev pub file_of : List (List ℕ) → Option (Bool × List Decision)
+abbrev pub file_of : List (List ℕ) → Option (Time × List Decision)
 file_of [] = None
-file_of (line ∷ lines) = both (free_in line) (read_on (Some []) lines)
+file_of (line ∷ lines) = both (time_in line) (read_on (Some []) lines)
 
 -- what a text says as a file of decisions
-abbrev pub file_in : List ℕ → Option (Bool × List Decision)
+abbrev pub file_in : List ℕ → Option (Time × List Decision)
 file_in text = file_of (lines_in text)
 
-abbrev pub schedule_of : Schedule → Bool × List Decision
-schedule_of it = (it.is_free, it.decisions.items)
+abbrev pub schedule_of : Schedule → Time × List Decision
+schedule_of it = (it.time, it.decisions.items)
 
--- whether the time is free, by the first of these lines
-abbrev pub first_in : List (List ℕ) → Option Bool
+-- how the time goes, by the first of these lines
+abbrev pub first_in : List (List ℕ) → Option Time
 first_in [] = None
-first_in (line ∷ lines) = free_in line
+first_in (line ∷ lines) = time_in line
 
 -- why lines are no decisions: one is none, or memory was refused
 abbrev pub IsLineFault : FileFault → Option (List Decision) → Type 0
@@ -121,12 +131,12 @@ IsLineFault FileFault.Memory read = Unit {0}
 -- why a text is no file: its first line is none of a file; or it is one, and another line is no decision; or memory was refused
 abbrev pub IsFault : FileFault → List ℕ → Type 0
 IsFault FileFault.FirstLine text = first_in (lines_in text) ≡ None
-IsFault FileFault.Line text = (is_free : Bool) × (first_in (lines_in text) ≡ Some is_free) × (file_in text ≡ None)
+IsFault FileFault.Line text = (time : Time) × (first_in (lines_in text) ≡ Some time) × (file_in text ≡ None)
 IsFault FileFault.Memory text = Unit {0}
 
 -- the text is this line, a line feed and that text, or the line alone; it is read as with a line feed
 pub record EndsLine (text line left : List ℕ) : Type 0 where
-  pub first : first_in (lines_in text) ≡ free_in line
+  pub first : first_in (lines_in text) ≡ time_in line
   pub lines : (read : Option (List Decision)) → read_on read (lines_in text) ≡ read_on read (line ∷ lines_in left)
   pub file : file_in text ≡ file_of (line ∷ lines_in left)
 
@@ -145,4 +155,4 @@ AreWritable (it ∷ decisions) = IsWritable it × AreWritable decisions
 -- what was written is read back
 abbrev pub WrittenIsRead : Type 0
 WrittenIsRead =
-    (is_free : Bool) (decisions : List Decision) → AreWritable decisions → file_in (file_text is_free decisions) ≡ Some (is_free, decisions)
+    (time : Time) (decisions : List Decision) → AreWritable decisions → file_in (file_text time decisions) ≡ Some (time, decisions)

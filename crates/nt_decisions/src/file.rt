@@ -2,16 +2,24 @@
 
 ghost use Rattle.std.specs.Prelude.{◌≡◌, ◌<◌, ◌≤◌, length, position, MatchResult, OnOk, IfErr, IfSome, Some};
 ghost use Rattle.std.specs.List.{position_or_len};
-ghost use Rattle.nt_decisions.specs.Decisions.{is_end, lines_in, entry_in, read_on, free_in, file_in, schedule_of, IsFault, IsLineFault, EndsLine};
+ghost use Rattle.nt_decisions.specs.Decisions.{is_end, lines_in, entry_in, read_on, time_of, time_in, file_in, schedule_of, IsFault, IsLineFault, EndsLine};
 
 use crate::decision::{Decision, read_decision};
 use std::alloc::{AllocError, Global};
 
+/// How the time of a run goes.
+#[derive(Clone, Copy, Debug, PartialEq, Eq)]
+pub struct Time {
+    /// Whether deadlines may come although threads could run.
+    pub is_free: bool,
+    /// Whether a step takes no time.
+    pub is_still: bool,
+}
+
 /// What a file says.
 #[derive(Debug, Drop)]
 pub struct Schedule {
-    /// Whether deadlines may come although threads could run.
-    pub is_free: bool,
+    pub time: Time,
     pub decisions: Vec<Decision>,
 }
 
@@ -28,15 +36,29 @@ pub enum FileFault {
 
 pub(crate) const FIRST_LINE: &[u8] = b"; ntwin-schedule 1";
 
-pub(crate) const FIRST_LINE_FREE: &[u8] = b"; ntwin-schedule 1 time=free";
+const FIRST_LINE_FREE: &[u8] = b"; ntwin-schedule 1 time=free";
 
-fn free_in(line: &[u8]) -> Option<bool>
-    ensures { result ≡ free_in line.now }
+const FIRST_LINE_STILL: &[u8] = b"; ntwin-schedule 1 time=still";
+
+const FIRST_LINE_FREE_AND_STILL: &[u8] = b"; ntwin-schedule 1 time=free time=still";
+
+fn time_of(is_free: bool, is_still: bool) -> Time
+    ensures { result ≡ time_of is_free is_still }
+{
+    Time { is_free, is_still }
+}
+
+fn time_in(line: &[u8]) -> Option<Time>
+    ensures { result ≡ time_in line.now }
 {
     if line == FIRST_LINE {
-        Some(false)
+        Some(time_of(false, false))
     } else if line == FIRST_LINE_FREE {
-        Some(true)
+        Some(time_of(true, false))
+    } else if line == FIRST_LINE_STILL {
+        Some(time_of(false, true))
+    } else if line == FIRST_LINE_FREE_AND_STILL {
+        Some(time_of(true, true))
     } else {
         None
     }
@@ -114,11 +136,11 @@ pub fn read_schedule(alloc: Global, text: &[u8]) -> Result<Schedule, FileFault>
     }
     let (line, after) = split_line(text);
     let mut decisions = Vec::new(alloc);
-    match free_in(line) {
+    match time_in(line) {
         None => Err(FileFault::FirstLine),
-        Some(is_free) => {
+        Some(time) => {
             take_lines(&mut decisions, after)?;
-            Ok(Schedule { is_free, decisions })
+            Ok(Schedule { time, decisions })
         }
     }
 }

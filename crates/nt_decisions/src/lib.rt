@@ -17,6 +17,6 @@ mod law;
 mod writing;
 
 pub use decision::{Chosen, Decision, read_decision};
-pub use file::{FileFault, Schedule, read_schedule};
+pub use file::{FileFault, Schedule, Time, read_schedule};
 pub use law::written_is_read;
 pub use writing::write_schedule;

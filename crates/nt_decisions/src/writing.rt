@@ -2,10 +2,10 @@
 
 ghost use Rattle.std.specs.Prelude.{◌≡◌, ◌++◌, ◌∷◌, [], OnOk, IfOk, decimal};
 ghost use Rattle.nt_grammar.specs.Spelling.{caller_word};
-ghost use Rattle.nt_decisions.specs.Decisions.{chosen_word, decision_text, lines_text, first_text, file_text};
+ghost use Rattle.nt_decisions.specs.Decisions.{chosen_word, decision_text, lines_text, word_if, first_text, file_text};
 
 use crate::decision::{CLOCK, Chosen, Decision};
-use crate::file::{FIRST_LINE, FIRST_LINE_FREE};
+use crate::file::{FIRST_LINE, Time};
 use itoa::Buffer;
 use std::alloc::{AllocError, Global};
 
@@ -43,14 +43,22 @@ fn put_decision(out: &mut Vec<u8>, decision: Decision) -> Result<(), AllocError>
     out.extend_from_slice(b"\n")
 }
 
-fn put_first(out: &mut Vec<u8>, is_free: bool) -> Result<(), AllocError>
-    ensures { OnOk result (out.new.items ≡ out.old.items ++ (first_text is_free ++ 10 ∷ [])) }
+fn put_if(out: &mut Vec<u8>, is_so: bool, word: &[u8]) -> Result<(), AllocError>
+    ensures { OnOk result (out.new.items ≡ out.old.items ++ word_if is_so word.now) }
 {
-    if is_free {
-        out.extend_from_slice(FIRST_LINE_FREE)?;
+    if is_so {
+        out.extend_from_slice(word)
     } else {
-        out.extend_from_slice(FIRST_LINE)?;
+        Ok(())
     }
+}
+
+fn put_first(out: &mut Vec<u8>, time: Time) -> Result<(), AllocError>
+    ensures { OnOk result (out.new.items ≡ out.old.items ++ (first_text time ++ 10 ∷ [])) }
+{
+    out.extend_from_slice(FIRST_LINE)?;
+    put_if(out, time.is_free, b" time=free")?;
+    put_if(out, time.is_still, b" time=still")?;
     out.extend_from_slice(b"\n")
 }
 
@@ -66,13 +74,13 @@ fn put_decisions(out: &mut Vec<u8>, decisions: &[Decision]) -> Result<(), AllocE
 /// Writes a file of decisions.
 pub fn write_schedule(
     alloc: Global,
-    is_free: bool,
+    time: Time,
     decisions: &[Decision],
 ) -> Result<Vec<u8>, AllocError>
-    ensures { IfOk result (λ text. text.items ≡ file_text is_free decisions.now) }
+    ensures { IfOk result (λ text. text.items ≡ file_text time decisions.now) }
 {
     let mut out = Vec::new(alloc);
-    put_first(&mut out, is_free)?;
+    put_first(&mut out, time)?;
     put_decisions(&mut out, decisions)?;
     Ok(out)
 }
