@@ -202,7 +202,7 @@ __attribute__((noinline)) static void unlock_and_wake_all(struct seat *caller)
 }
 
 /* Gives the lock back, and wakes those whose words the call has written. */
-static inline void unlock_and_wake(struct seat *caller)
+__attribute__((always_inline)) static inline void unlock_and_wake(struct seat *caller)
 {
     if (waiting.wakes > 0)
         unlock_and_wake_all(caller);
