@@ -1,7 +1,6 @@
-"""Builds a program: proved, or once for its sources without proofs, and then the other program beside it. One run of a launcher builds in a clone at
+"""Builds a program: proved, or once for its sources without proofs, and then both programs as one. One run of a launcher builds in a clone at
 a time, and others wait for it and use what it built.
 """
-import concurrent.futures
 import contextlib
 import fcntl
 import functools
@@ -9,13 +8,17 @@ import glob
 import os
 import shutil
 import subprocess
+import sys
 import tempfile
 import time
 
+TOP = os.path.dirname(os.path.dirname(os.path.realpath(__file__)))
+sys.path.append(f"{TOP}/proving")
 import kit
+from crates import Crate, crates_of, text_of
+from rooms import copy_texts
 from terminal import WHO, progress, say
 
-TOP = os.path.dirname(os.path.dirname(os.path.realpath(__file__)))
 LOCK = f"{TOP}/out/building"
 # The seconds that the last build took.
 TOOK = f"{TOP}/out/building_took"
@@ -28,18 +31,19 @@ class NotBuilt(Exception):
 
 
 class Program:
-    """A program: its name, the words before the name of a script, and how what it writes of the script `threads 1` ends."""
+    """A program: its name, and the words before the name of a script."""
 
-    def __init__(self, name, words, wrote):
-        self.name, self.words, self.wrote = name, words, wrote
+    def __init__(self, name, words):
+        self.name, self.words = name, words
         self.crate = f"{TOP}/crates/{name}"
         self.proved = f"{self.crate}/out/{name}"
         self.unproved = f"{TOP}/out/{name}_unproved"
 
 
-NTRUN = Program("ntrun", ["script"], b"end: pending none\n")
-NTLOOK = Program("ntlook", ["why"], b":1: nobody waits\n")
+NTRUN, NTLOOK = Program("ntrun", ["script"]), Program("ntlook", ["why"])
 PROGRAMS = (NTRUN, NTLOOK)
+# The crate that is both, while it is built without proofs, and how what it writes of the script `threads 1` ends.
+BOTH, WROTE = "both", b"end: pending none\n"
 
 
 def judged_rt():
@@ -86,15 +90,15 @@ def build_proved(built):
 
 
 @contextlib.contextmanager
-def alone():
-    """Lasts while no other run builds in this clone: waits for one that does."""
+def alone(path=LOCK):
+    """Lasts while no other run builds in this folder: waits for one that does."""
     try:
-        os.makedirs(os.path.dirname(LOCK), exist_ok=True)
-        lock = open(LOCK, "a", encoding="ascii")  # pylint: disable=consider-using-with
-        if not os.access(os.path.dirname(LOCK), os.W_OK):
-            raise unwritable(os.path.dirname(LOCK), "it can't be written")
+        os.makedirs(os.path.dirname(path), exist_ok=True)
+        lock = open(path, "a", encoding="ascii")  # pylint: disable=consider-using-with
+        if not os.access(os.path.dirname(path), os.W_OK):
+            raise unwritable(os.path.dirname(path), "it can't be written")
     except OSError as error:
-        raise unwritable(os.path.dirname(LOCK), error.strerror) from error
+        raise unwritable(os.path.dirname(path), error.strerror) from error
     with lock:
         try:
             fcntl.flock(lock, fcntl.LOCK_EX | fcntl.LOCK_NB)
@@ -154,17 +158,16 @@ def keep_once_run(builder, pipe, wanted):
     return bool(program), builder.communicate()[0]
 
 
-def try_and_keep(crate, words, wanted, builders):
+def try_and_keep(crate, words, wanted):
     """Has `rt try` build the program of the crate in this folder, without proofs, and run it on a named pipe, and copies the program to `wanted` while it
     waits for its script there: `rt try` removes what it built as soon as the program ends. Answers whether it was kept, its exit status,
-    what it wrote, and the lines that were said. The process that builds is put among the builders, for whoever has to end it."""
+    what it wrote, and the lines that were said."""
     with tempfile.TemporaryDirectory(prefix="ntrun-") as folder, open(f"{folder}/said", "w+b") as said:
         pipe = f"{os.path.realpath(folder)}/script"
         os.mkfifo(pipe)
         how = {"stdin": subprocess.DEVNULL, "stdout": subprocess.PIPE, "stderr": said}
         how["env"] = {**os.environ, "TMPDIR": folder}
         builder = subprocess.Popen([kit.find_rt(), "try", "--", *words, pipe], cwd=crate, **how)
-        builders.append(builder)
         try:
             kept, wrote = keep_once_run(builder, pipe, wanted)
         except OSError as error:
@@ -180,38 +183,41 @@ def about_seconds():
     """How long a build takes, by the last one here."""
     with contextlib.suppress(OSError, ValueError), open(TOOK, encoding="ascii") as file:
         return f"{int(file.read())} s, as the last one here"
-    return "30 s on an idle machine"
+    return "40 s on an idle machine"
 
 
-def keep_unproved(built, builders):
-    """Builds one program without proofs, and keeps it. Where that fails, what was said of it is the second of the exception's arguments."""
+def both_in(room):
+    """Lays out in the folder a crate that is both programs, by the name that it is run by, and the libraries below it. Returns its folder."""
+    known = crates_of(TOP)
+    uses = {use for it in PROGRAMS for use in known[it.name].line.partition(":")[2].split()}
+    known[BOTH] = Crate(room, f"{BOTH}: {' '.join(sorted(uses))}", known)
+    for it in known[BOTH].below():
+        copy_texts(it, f"{room}/crates/{it.name}")
+    with open(f"{room}/crates.txt", "w", encoding="utf-8") as file:
+        file.writelines(f"{it.line}\n" for it in [*known[BOTH].below(), known[BOTH]])
+    shutil.copy(f"{TOP}/HANDLES", room)
+    os.makedirs(f"{known[BOTH].folder}/src")
+    # (`main` alone has the runtime with all its traits: so that of each program gives way to this crate's own.)
+    texts = {it.name: text_of(f"{it.crate}/src/main.rt").partition("\nfn main(")[0].replace("\nfn start<", "\npub fn start<") for it in PROGRAMS}
+    for name, text in {"main": text_of(f"{TOP}/launcher/both.rt"), **texts}.items():
+        with open(f"{known[BOTH].folder}/src/{name}.rt", "w", encoding="utf-8") as file:
+            file.write(text)
+    return known[BOTH].folder
+
+
+def keep_unproved():
+    """Builds both programs as one, and keeps it under either name. If that fails, the exception's second argument has what was said of it."""
     began = time.time_ns()
-    kept, status, wrote, told = try_and_keep(built.crate, built.words, f"{built.unproved}.new", builders)
-    if status or not wrote.endswith(built.wrote):
-        raise NotBuilt("the program could not be built, or did not run", told)
+    with tempfile.TemporaryDirectory(prefix="both-") as room:
+        kept, status, wrote, told = try_and_keep(both_in(room), NTRUN.words, f"{NTRUN.unproved}.new")
+    if status or not wrote.endswith(WROTE):
+        raise NotBuilt("the programs could not be built, or did not run", told)
     if not kept:
-        raise NotBuilt("the program was built, but could not be kept: use --proved", [])
-    os.utime(f"{built.unproved}.new", ns=(began, began))
-    os.replace(f"{built.unproved}.new", built.unproved)
-
-
-@contextlib.contextmanager
-def others_beside(built):
-    """While it lasts, builds the other programs that are not built too. What comes of that shows once they are asked for."""
-    def build(other):
-        with contextlib.suppress(NotBuilt, OSError):
-            keep_unproved(other, builders)
-
-    builders, others = [], [it for it in PROGRAMS if it is not built and os.path.isdir(it.crate) and not is_built(it)]
-    with concurrent.futures.ThreadPoolExecutor() as pool:
-        for it in others:
-            pool.submit(build, it)
-        try:
-            yield
-        except BaseException:
-            for it in builders:
-                it.terminate()
-            raise
+        raise NotBuilt("the programs were built, but could not be kept: use --proved", [])
+    os.utime(f"{NTRUN.unproved}.new", ns=(began, began))
+    shutil.copy2(f"{NTRUN.unproved}.new", f"{NTLOOK.unproved}.new")
+    for it in PROGRAMS:
+        os.replace(f"{it.unproved}.new", it.unproved)
 
 
 def judge_room():
@@ -222,15 +228,15 @@ def judge_room():
         raise NotBuilt(f"{folder} has room for {free >> 20} MB, and a build wants {ROOM >> 20} MB there: set TMPDIR to a folder with more")
 
 
-def build_unproved(built):
-    """Builds a program without proofs, and keeps it; and beside it the other one."""
+def build_unproved():
+    """Builds both programs without proofs, and keeps them."""
     judged_rt()
     judge_room()
     began = time.time_ns()
     say(f"{WHO}: building ntrun and ntlook without proofs, once for these sources; about {about_seconds()}")
     try:
-        with progress("building", about_seconds()), others_beside(built):
-            keep_unproved(built, [])
+        with progress("building", about_seconds()):
+            keep_unproved()
     except NotBuilt as why:
         say(*why.args[1:2] and why.args[1])
         raise NotBuilt(why.args[0]) from why
@@ -258,7 +264,7 @@ def checker_of(built):
                 raise NotBuilt(f"{ran.stdout}{ran.stderr}{built.name} could not be proved")
             os.utime(built.proved)
         elif not is_built(built):
-            kept, _, _, told = try_and_keep(built.crate, built.words, built.unproved, [])
+            kept, _, _, told = try_and_keep(built.crate, built.words, built.unproved)
             if not kept:
                 raise NotBuilt("\n".join(told) or f"{built.name} could not be built")
     return path_once_built(built)
@@ -277,6 +283,6 @@ def path_of(built):
         with alone():
             # (Another run may have built it meanwhile.)
             if not is_built(built):
-                build_unproved(built)
+                build_unproved()
     say(f"{WHO}: this is an unproved build; {WHO} --proved {built.words[0]} FILE proves the program first")
     return built.unproved

@@ -133,15 +133,18 @@ def tell_rate(proofs, work, progress):
         progress.tell(f"{RATED}, with nothing to do and nothing beside it: checked, {seconds:.0f} s")
 
 
+# What builds without proofs: the two programs as one, and the dispatcher for C programs. They have nothing in common, and are built side by side.
+BUILDS = (("./ntrun", "script", "examples/hand_over.nts"), ("./ntlook", "why", "examples/hand_over.nts"), ("c/kit/unproved",))
+
+
 def unproved_build(top, progress):
-    """Builds the programs without proofs, where they are not there."""
-    failed = []
-    for who, word in (("./ntrun", "script"), ("./ntlook", "why")):
-        said = run([who, word, "examples/hand_over.nts"], top)
-        if said.status:
-            progress.tell(said.text.rstrip())
-            failed.append(f"{who}: status {said.status}")
-    return Step(2 - len(failed), failed)
+    """Builds without proofs what is not there."""
+    with ThreadPoolExecutor() as pool:
+        built = zip(BUILDS, pool.map(lambda it: run(it, top), BUILDS))
+    failed = [(f"{words[0]}: status {said.status}", said.text.rstrip()) for words, said in built if said.status]
+    for told in failed:
+        progress.tell("\n".join(told))
+    return Step(len(BUILDS) - len(failed), [it for it, _ in failed])
 
 
 # The exit statuses that what is run on an example may end with.

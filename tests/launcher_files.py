@@ -115,7 +115,7 @@ def built_program():
 
 
 # A kit for the tests of building: it notes each of its runs, and the program that it builds is the shell, which takes its first word for the name of
-# a file of commands: so these tell what the program does.
+# a file of commands: so these say what the program does.
 COMMANDS = {
     "script": 'while read -r line; do :; done <"$1"; echo "end: pending ${WAITS:-none}"',
     "threads": 'echo threads "$@"',
@@ -127,7 +127,7 @@ echo "$1" >>"$0.runs"
 [ -e "$0.slow" ] && sleep 2
 [ -e "$0.broken" ] && { echo 'error: broken' >&2; exit 1; }
 made=out/ntrun
-[ "$1" = try ] && made=$TMPDIR/made/anything
+[ "$1" = try ] && made=$TMPDIR/made/anything && cp "${0%/bin/rt}/a clone/script" .
 mkdir -p "${made%/*}" && cp /bin/sh "$made" && shift 2 && "$made" "$@"
 """
 
@@ -135,14 +135,17 @@ mkdir -p "${made%/*}" && cp /bin/sh "$made" && shift 2 && "$made" "$@"
 class Scratch:
     """A copy of the launcher over sources of its own, with the kit above."""
 
-    def __init__(self, folder, programs=("ntrun",)):
+    def __init__(self, folder):
+        programs = ("ntrun", "ntlook")
         self.folder = f"{folder}/a clone"
         self.rt = f"{folder}/bin/rt"
-        shutil.copytree(f"{TOP}/launcher", f"{self.folder}/launcher", ignore=shutil.ignore_patterns("__pycache__"))
+        for it in ("launcher", "proving"):
+            shutil.copytree(f"{TOP}/{it}", f"{self.folder}/{it}", ignore=shutil.ignore_patterns("__pycache__"))
         for it in programs:
             shutil.copy(f"{TOP}/{it}", self.folder)
         script = "threads 1\n"
-        held = {"crates.txt": "", **{f"crates/{it}/src/main.rt": "" for it in programs}, "one.nts": script, "examples/hand_over.nts": script}
+        held = {"crates.txt": "ntrun:\nntlook:\n", "HANDLES": "", "one.nts": script, "examples/hand_over.nts": script}
+        held |= {f"crates/{it}/src/main.rt": "" for it in programs}
         held |= {f"{at}{name}": text for at in ("", *(f"crates/{it}/" for it in programs)) for name, text in COMMANDS.items()}
         for path, text in [*((f"{self.folder}/{it}", text) for it, text in held.items()), (self.rt, KIT), (f"{self.rt}.runs", "")]:
             os.makedirs(os.path.dirname(path), exist_ok=True)
