@@ -30,7 +30,7 @@ static int forked(int (*does)(void))
  * A child is forked beside threads that call and wait: each of its calls is refused with ERROR_NOT_SUPPORTED, and none hangs, not
  * even one that waits for a callback. A child of a process in which nobody else has called may call, also where the lock favours who forks. */
 
-static HANDLE event, gate;
+static HANDLE event, gate, callers[4];
 static LONG is_in_callback;
 static PTP_WORK work;
 
@@ -80,9 +80,10 @@ static int callbacks_beside_threads(void)
 /* How many calls_on_event were not refused as they ought to be. */
 static int calls_beside_threads(void)
 {
+    DWORD code;
     int wrong = FAILS(SetEvent(event)) + FAILS(CloseHandle(event)) + FAILS(CreateMutex(NULL, FALSE, NULL) != NULL);
     wrong += FAILS(CreateThread(NULL, 0, does_nothing, NULL, 0, NULL) != NULL);
-    wrong += FAILS(WaitForSingleObject(event, 4000) != WAIT_FAILED);
+    wrong += FAILS(WaitForSingleObject(event, 4000) != WAIT_FAILED) + FAILS(GetExitCodeThread(callers[0], &code));
     const double began = now_ms();
     Sleep(1);
     return wrong + (now_ms() - began < 1);
@@ -138,13 +139,12 @@ static void fork_as_favoured(void)
 
 int case_forked_child(void)
 {
-    HANDLE threads[4];
     event = CreateEvent(NULL, TRUE, FALSE, NULL);
     gate = CreateEvent(NULL, TRUE, FALSE, NULL);
     IS(forked(calls_alone), 0);
     fork_as_favoured();
     IS(SetEvent(event), TRUE);
-    threads[0] = CreateThread(NULL, 0, waits, NULL, 0, NULL);
+    callers[0] = CreateThread(NULL, 0, waits, NULL, 0, NULL);
     rest_ms(20);
     IS(forked(calls_beside_threads), 0);
     must((work = CreateThreadpoolWork(waits_in_pool, NULL, NULL)) != NULL);
@@ -152,12 +152,12 @@ int case_forked_child(void)
     await(&is_in_callback);
     IS(forked(callbacks_beside_threads), 0);
     for (int i = 1; i < 4; i++)
-        threads[i] = CreateThread(NULL, 0, calls_on_event, NULL, 0, NULL);
+        callers[i] = CreateThread(NULL, 0, calls_on_event, NULL, 0, NULL);
     for (int i = 0; i < CHILDREN; i++)
         IS(forked(calls_beside_threads), 0);
     raise_flag(&stops);
     IS(SetEvent(gate), TRUE);
-    IS(WaitForMultipleObjects(4, threads, TRUE, INFINITE), WAIT_OBJECT_0);
+    IS(WaitForMultipleObjects(4, callers, TRUE, INFINITE), WAIT_OBJECT_0);
     WaitForThreadpoolWorkCallbacks(work, FALSE);
     CloseThreadpoolWork(work);
     IS(SetEvent(event), TRUE);
