@@ -32,7 +32,7 @@ impl Model for ApcQueues {
 }
 
 impl ApcQueues {
-    /// An empty queue for each of so many threads, and no promise.
+    /// An empty queue for each of `threads` threads, and no promise.
     pub fn new(alloc: Global, threads: usize) -> Result<Self, AllocError>
         ensures queues { IfOk result (λ apcs. apcs.queues ≡ replicate threads []) }
         ensures places { IfOk result (λ apcs. apcs.places ≡ []) }

@@ -50,7 +50,7 @@ pub enum Act {
         handle: Handle,
         access: u32,
     },
-    /// CloseHandle: the handle names nothing any more, and no other gets its number.
+    /// CloseHandle: the handle no longer names anything, and no other gets its number.
     Close(Handle),
     /// Takes the caller's oldest APC, where its last ended wait ended for its APCs and it has not found none since.
     NextApc,

@@ -20,7 +20,7 @@ pub const MODIFY_STATE: u32 = 0x0002;
 /// THREAD_SET_CONTEXT.
 pub const SET_CONTEXT: u32 = 0x0010;
 
-/// The most objects of a wait for few: most waits for several objects name no more, and need less room for a list of them.
+/// The most objects of a wait for few. Most waits for several objects name at most this many, and a list of them needs less room.
 pub const FEW_OBJECTS: usize = 8;
 
 /// The numbers of the objects that a wait names, at most `N`. They lie in the value itself.

@@ -95,7 +95,7 @@ impl Machine {
         }
     }
 
-    /// Makes the call of this thread, or refuses it, and ends the objects that nothing keeps any more.
+    /// Makes the call of this thread, or refuses it, and ends the objects that nothing keeps any longer.
     #[inline(always)]
     pub fn call(&mut self, who: u32, call: &Call) -> Answer
         requires steady { IsSteady self.old }

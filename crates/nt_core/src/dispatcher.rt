@@ -100,7 +100,7 @@ impl Core {
     }
 
     /// Makes the call of this thread, and answers its reply or why it is refused. The pending waits that it ends are in
-    /// `grants`, no more than pended before it. A refused call changes nothing.
+    /// `grants`, at most as many as pended before it. A refused call changes nothing.
     #[inline(always)]
     pub fn call(&mut self, who: u32, call: &Call) -> Result<Reply, Refusal>
         ensures called { Called (state self.old) who call.now result self.new.grants (state self.new) }

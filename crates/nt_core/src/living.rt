@@ -1,4 +1,4 @@
-//! When an object lives, and the end of those that nothing keeps any more.
+//! When an object lives, and the end of those that nothing keeps any longer.
 ghost use Rattle.std.specs.Prelude.{◌≡◌, ◌≢◌, ◌<◌, [], ℕ, None, Some, true, false, length, slice_set, if◌then◌else◌};
 ghost use Rattle.std.specs.List.{Contains};
 ghost use Rattle.nt_apc.specs.Queues.{withdrawn, place_of};
@@ -37,7 +37,7 @@ pub(crate) fn let_go(handles: &HandleTable, leaving: &mut Marks, ended: &[Object
 }
 
 impl Machine {
-    /// Whether the object lives and nothing keeps it any more. No list is walked.
+    /// Whether the object lives though nothing keeps it any longer. No list is walked.
     fn is_forgotten(&self, object: ObjectNumber) -> bool
         ensures { result ≡ is_forgotten (state self.now) object }
     {
@@ -50,7 +50,7 @@ impl Machine {
         !there.is_gone() && !(opened || (awaited || runs))
     }
 
-    /// From now on nothing may keep the object any more.
+    /// Marks the object: perhaps nothing keeps it from now on.
     pub(crate) fn mark(&mut self, object: ObjectNumber)
         requires { object < length self.old.leaving }
         ensures { self.new ≡ record self.old { leaving = slice_set self.old.leaving object true } }
@@ -67,7 +67,7 @@ impl Machine {
         let_go(&self.handles, &mut self.leaving, ended);
     }
 
-    /// CloseHandle: the handle names nothing any more, and what it named may be kept by nothing.
+    /// CloseHandle: the handle no longer names anything, and perhaps nothing keeps the object that it named.
     pub(crate) fn close(&mut self, handle: Handle) -> Answer
         requires fresh { IsFresh self.old }
         ensures { IsActOfAny self.old self.new (Act.Close handle) result }
@@ -92,7 +92,7 @@ impl Machine {
         }
     }
 
-    /// The object is gone: a timer is not armed any more and its queued APC is withdrawn, a mutex is nobody's.
+    /// The object is gone: a timer is no longer armed and its queued APC is withdrawn, and nobody owns a mutex.
     fn end_object(&mut self, object: ObjectNumber)
         requires sound { IsMachineSound self.old }
         requires forgotten { is_forgotten (state self.old) object ≡ true }
@@ -107,7 +107,7 @@ impl Machine {
         self.objects.put(object, Object::Gone);
     }
 
-    /// An object that has a mark is gone where nothing keeps it any more, and has no mark then.
+    /// Ends the object where nothing keeps it any longer, and clears its mark.
     #[inline(never)]
     fn end_marked(&mut self, object: ObjectNumber)
         requires sound { IsMachineSound self.old }
@@ -124,7 +124,7 @@ impl Machine {
         self.leaving.clear(object.get() as usize);
     }
 
-    /// Ends each object that nothing keeps any more, and looks at none that has no mark.
+    /// Ends each object that nothing keeps any longer, and looks at none that has no mark.
     pub(crate) fn end_forgotten(&mut self)
         requires steady { IsSteady self.old }
         ensures ends { Ends (state self.old) (state self.new) }

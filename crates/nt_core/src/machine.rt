@@ -23,14 +23,14 @@ use std::marker::Model;
 /// What a call answers: its reply, or why it is refused.
 pub(crate) type Answer = Result<Reply, Refusal>;
 
-/// For each of so many threads that it may not take APCs.
+/// For each of `count` threads: it may not take APCs.
 fn none_handing(alloc: Global, count: usize) -> Result<Vec<bool>, AllocError>
     ensures { IfOk result (λ handing. handing.items ≡ replicate count false) }
 {
     vec![in alloc; false; count]
 }
 
-/// Each of so many threads is free to call.
+/// For each of `count` threads: it is free to call.
 fn all_free(alloc: Global, count: usize) -> Result<Vec<Standing>, AllocError>
     ensures { IfOk result (λ standings. standings.items ≡ replicate count Standing.Free) }
 {
@@ -53,7 +53,7 @@ pub struct Machine {
     pub(crate) moment: Moment,
     pub(crate) grants: Vec<Grant>,
     pub(crate) alarms: Alarms,
-    /// A mark for each object that nothing may keep any more.
+    /// A mark for each object that perhaps nothing keeps any longer.
     pub(crate) leaving: Marks,
     /// A mark for each object whose waits are to be served still.
     pub(crate) changed: Marks,
@@ -125,7 +125,7 @@ impl Machine {
         Ok((machine, reader))
     }
 
-    /// Nothing is told yet of the call or tick that comes.
+    /// Clears what was reported of the call or tick before: the list of ended waits, and which waits were looked at.
     pub fn tell_anew(&mut self)
         requires { IsSteady self.old }
         ensures state { state self.new ≡ state self.old }

@@ -47,7 +47,7 @@ impl Core {
         let _threads = self.machine.threads;
     }
 
-    /// The objects by their own numbers, by which `waits_for` names them. What no handle and no wait keeps any more is gone.
+    /// The objects by their own numbers, by which `waits_for` names them. What no handle and no wait keeps any longer is gone.
     pub fn objects(&self) -> &[Object]
         ensures { result.now ≡ (state self.now).objects }
     {

@@ -24,7 +24,7 @@ impl Machine {
         self.create(semaphore)
     }
 
-    /// The semaphore counts so many more, and the waits that name it are served. Answers the count before.
+    /// Adds `count` to the semaphore's count, and serves the waits that name it. Answers the count before.
     pub(crate) fn raise_count(&mut self, semaphore: ObjectNumber, count: i32) -> i32
         requires fresh { IsFresh self.old }
         requires kind { IsTrue (is_semaphore (object_at self.old.objects semaphore)) }

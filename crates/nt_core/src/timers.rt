@@ -109,7 +109,7 @@ impl Machine {
         Ok(())
     }
 
-    /// Stops the timer, withdraws its queued APC, and arms it anew, not set. Where memory is refused nothing changes.
+    /// Stops the timer, withdraws its queued APC, and arms it again, not set. Where memory is refused nothing changes.
     fn arm(&mut self, timer: ObjectNumber, armed: Armed) -> Result<(), AllocError>
         requires sound { IsMachineSound self.old }
         requires kind { IsTrue (is_timer (object_at self.old.objects timer)) }
@@ -129,7 +129,7 @@ impl Machine {
         Ok(())
     }
 
-    /// The timer is armed anew. Where its due moment is not ahead it expires at once, and where it then is set and was not, the
+    /// Arms the timer again. Where its due moment is not ahead it expires at once. Where that sets a timer that was not set, the
     /// waits that name it are served.
     fn start(
         &mut self,

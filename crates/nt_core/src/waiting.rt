@@ -25,8 +25,8 @@ use nt_calls::{
 };
 use nt_status::{Handle, Handles, MAX_WAIT_OBJECTS, ObjectNumber, Refusal, Status, ThreadId};
 
-/// The status with which a wait ended at once, or none where it pends. What begins a wait answers no more than that: a reply is large, and
-/// a function that may get one clears room for it at each call.
+/// The status with which a wait ended at once, or none where it pends. What begins a wait answers only that: a reply is large, and a
+/// function that may get one clears room for it at each call.
 pub(crate) type Begun = Result<Option<Status>, Refusal>;
 
 /// The reply of a waiting call, from how its wait began.

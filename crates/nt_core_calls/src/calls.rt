@@ -98,7 +98,7 @@ pub trait Calls {
         ensures { IsCalled (dispatcher self.old) who (Call.Act (Act.Duplicate handle access))
             (created_reply result) (dispatcher self.new) };
 
-    /// CloseHandle: the handle names nothing any more, and no other gets its number.
+    /// CloseHandle: the handle no longer names anything, and no other gets its number.
     fn close(&mut self, who: u32, handle: Handle) -> Result<(), Refusal>
         ensures { IsCalled (dispatcher self.old) who (Call.Act (Act.Close handle))
             (done_reply result) (dispatcher self.new) };

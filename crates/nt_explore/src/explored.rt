@@ -19,7 +19,7 @@ pub enum Verdict {
     Hangs { lanes: Vec<u32>, loss: Option<Loss> },
     /// No order hangs.
     None,
-    /// The bound was met, and no order of at most so many steps hangs.
+    /// The bound was met, and no order of at most `level` steps hangs.
     Met { level: usize },
 }
 

@@ -31,7 +31,7 @@ fn goes_on(plan: &Plan, place: &Place, thread: u32) -> bool
     has_more(plan, &place.places, thread) || place.core.is_waiting(thread)
 }
 
-/// By thread, whether it makes no call any more.
+/// By thread, whether it makes no further call.
 fn over_at(alloc: Global, plan: &Plan, place: &Place) -> Result<Vec<bool>, AllocError>
     requires { length place.now.places.items ≡ length plan.now }
     ensures point { IfOk result (λ over. (t : ℕ) → t < (state place.now.core).threads

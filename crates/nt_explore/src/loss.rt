@@ -31,7 +31,7 @@ pub struct Edges {
     pub waits: Vec<bool>,
 }
 
-/// None yet, of so many threads.
+/// No edges yet, of a graph for `threads` threads.
 pub fn no_edges(alloc: Global, threads: u32) -> Edges
     ensures threads { result.threads ≡ threads }
     ensures pairs { result.pairs.items ≡ [] }

@@ -140,7 +140,7 @@ fn find(
     Ok(None)
 }
 
-/// The slot so many steps after the hash's own.
+/// The slot `step` steps after the hash's own.
 fn slot_after(hash: u32, step: usize, count: usize) -> usize
     requires { step < count }
     ensures within { result < count }

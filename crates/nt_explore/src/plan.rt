@@ -62,7 +62,7 @@ fn ask_in(asks: &[Ask], place: usize) -> Option<&Ask>
 }
 
 impl Plan {
-    /// For so many threads, that do nothing yet.
+    /// A plan for `threads` threads, which do nothing yet.
     pub fn new(alloc: Global, threads: u32) -> Result<Plan, AllocError>
         ensures { IfOk result (λ plan. plan ≡ replicate (threads + 1) []) }
     {

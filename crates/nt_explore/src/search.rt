@@ -236,7 +236,7 @@ fn judge_rest(alloc: Global, entries: &[Entry], looked: usize) -> Result<Verdict
     Ok(Verdict::Met { level })
 }
 
-/// What the search has come to, where so many states were looked at.
+/// What the search has come to, after it looked at `looked` states.
 fn judge(
     alloc: Global,
     entries: &[Entry],

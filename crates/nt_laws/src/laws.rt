@@ -13,7 +13,7 @@ pub fn runs_one_way()
     ensures { RunsOneWay }
 {}
 
-/// A semaphore hands out what it was given and no more: over every run its count and the number of times that it was taken make
+/// A semaphore hands out exactly what it was given: over every run its count and the number of times that it was taken make
 /// up what it was given, and the count stays between zero and the maximum.
 pub fn semaphores_give_what_they_have()
     ensures { SemaphoresGiveWhatTheyHave }
@@ -24,8 +24,8 @@ pub fn one_owner()
     ensures { OneOwner }
 {}
 
-/// One set of an auto-reset event ends one wait: in any part of a run it is taken no more often than it is set, where a set that
-/// stands at the beginning counts.
+/// One set of an auto-reset event ends at most one wait: in any part of a run it is taken at most as often as it is set. A set
+/// that stands at the beginning counts.
 pub fn one_set_one_wait()
     ensures { OneSetOneWait }
 {}
@@ -37,7 +37,7 @@ pub fn handles_stay()
 {}
 
 /// Rights never grow: over every part of a run, the rights that a handle of an object has at the end, a handle of it had at the
-/// beginning, if the object was there. So a right that no handle of an object has any more never comes back.
+/// beginning, if the object was there. So a right that no handle of an object has any longer never comes back.
 pub fn rights_never_grow()
     ensures { RightsNeverGrow }
 {}

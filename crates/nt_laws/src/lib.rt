@@ -11,11 +11,11 @@
 //!
 //! A **law** is a statement on all runs, or on all lives, that follows from the definitions and names no code and no machine. A reader has to believe none:
 //! the definitions are what is believed, and the laws show that they mean what one would expect. What a thread took is read off
-//! what it was told, replies and grants (`takes`), so a law would not hold of a status that tells the wrong object.
+//! the replies and grants that it got (`takes`), so a law would not hold of a status that names the wrong object.
 //!
 //! ```text
 //!    the state, and the calls --> what is granted, and to whom      nothing is left to choose
-//!    what was given           --> what was taken                    no more is handed out
+//!    what was given           --> what was taken                    nothing beyond it is handed out
 //!    the handles before       --> the handles after                 a number, or a right, never comes back
 //!    what keeps an object     --> what lives                        neither more nor less
 //! ```
@@ -26,9 +26,9 @@
 //! | `runs_one_way` | results, grants and states are a function of the calls and ticks, and of which calls found no memory |
 //! | `semaphores_give_what_they_have` | a semaphore's count and its takings make up what it was given |
 //! | `one_owner` | a thread holds a mutex as deep as it owes releases of it, and no two threads owe any |
-//! | `one_set_one_wait` | an auto-reset event is taken no more often than it is set |
+//! | `one_set_one_wait` | an auto-reset event is taken at most as often as it is set |
 //! | `handles_stay` | a handle names one object with the same rights, and nothing once it was closed |
-//! | `rights_never_grow` | a right that no handle of an object has any more never comes back |
+//! | `rights_never_grow` | a right that no handle of an object has any longer never comes back |
 //! | `objects_live_while_kept` | an object lives exactly while a handle, a pending wait or a running thread keeps it |
 //! | `runs_are_lives` | a run is a life in which no number is given again and no object moves, and such a life is a run |
 //! | `handles_stay_until_given_again` | in a life a handle names one object, by the number that it has then, until it is closed or given again |
@@ -37,7 +37,7 @@
 //! | `objects_live_while_kept_in_lives` | in a life too an object lives exactly while a handle, a pending wait or a running thread keeps it |
 //! | `semaphores_give_what_they_have_since_given` | in a life a semaphore's count and its takings make up what it was given, since its number was given last |
 //! | `one_owner_since_given` | in a life a thread holds a mutex as deep as it owes releases of it, since its number was given last, and no two owe any |
-//! | `one_set_one_wait_since_given` | in a life an auto-reset event is taken no more often than it is set, since its number was given last |
+//! | `one_set_one_wait_since_given` | in a life an auto-reset event is taken at most as often as it is set, since its number was given last |
 //! | `lives_one_way` | results, grants and states of a life are a function of what was asked for, and of what found no memory |
 //!
 //! A statement is proved only where a contract names it. So each law is the contract of a function that takes nothing and does

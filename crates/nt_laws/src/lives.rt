@@ -31,7 +31,7 @@ pub fn objects_live_while_kept_in_lives()
     ensures { ObjectsLiveWhileKeptInLives }
 {}
 
-/// A semaphore hands out what it was given and no more, since its number was given last: its count and the number of times that it was
+/// A semaphore hands out exactly what it was given, since its number was given last. Its count and the number of times that it was
 /// taken make up what it was given, and the count stays between zero and the maximum.
 pub fn semaphores_give_what_they_have_since_given()
     ensures { SemaphoresGiveWhatTheyHaveSinceGiven }
@@ -43,8 +43,8 @@ pub fn one_owner_since_given()
     ensures { OneOwnerSinceGiven }
 {}
 
-/// One set of an auto-reset event ends one wait: in any part of a life, from where the event's number was given last in it, it is taken
-/// no more often than it is set.
+/// One set of an auto-reset event ends at most one wait: in any part of a life, from where the event's number was given last in it, it
+/// is taken at most as often as it is set.
 pub fn one_set_one_wait_since_given()
     ensures { OneSetOneWaitSinceGiven }
 {}

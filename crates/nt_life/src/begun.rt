@@ -1,4 +1,4 @@
-//! What is told of a thread that began.
+//! What is reported of a thread that began.
 use nt_status::Handle;
 
 /// A thread that began in the place of one that had ended.

@@ -1,4 +1,4 @@
-//! What is told of numbers that are given again.
+//! What is reported of numbers that are given again.
 use nt_core::Act;
 use nt_status::{Handle, ObjectNumber};
 

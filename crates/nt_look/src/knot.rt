@@ -140,7 +140,7 @@ fn first_untied(core: &Core, over: &[bool], knot: &[bool]) -> Option<u32>
 }
 
 /// The threads of the greatest knot, by their numbers: each waits for what only others of them could release, or nothing, and neither a
-/// deadline nor an APC can end that. None of them ever goes on (`knots_hold`). The marked threads make no call any more, and are of it.
+/// deadline nor an APC can end that. None of them ever goes on (`knots_hold`). The marked threads make no further call, and belong to it.
 pub fn greatest_knot(alloc: Global, core: &Core, over: &[bool]) -> Result<Vec<bool>, AllocError>
     ensures count { IfOk result (λ knot. length knot.items ≡ (state core.now).threads) }
     ensures knot { IfOk result (λ knot. IsGreatestKnot (unmarked over.now) (state core.now) knot.items) }

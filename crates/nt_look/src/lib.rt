@@ -1,12 +1,12 @@
 // SPDX-License-Identifier: MIT OR Apache-2.0
 //! Why threads wait, and whether anything can end it.
 //!
-//! A program hangs where a wait pends that nothing ends. Two cases are told by the dispatcher alone, without a look at the program:
+//! A program hangs where a wait pends that nothing ends. Two cases are seen from the dispatcher alone, without a look at the program:
 //!
 //! - **Stuck**: every thread that may still call waits, and time alone ends no wait. No deadline comes, armed timers satisfy none, and no
 //!   APC is queued or will be. Nobody is left who could signal anything ([`is_stuck`]).
 //! - **A knot**: threads that wait for what only they themselves could release: mutexes that others of them own, the ends of others of
-//!   them, and objects that nobody can signal any more; neither a deadline nor an APC can end these waits ([`greatest_knot`]). Other
+//!   them, and objects that nobody can signal any longer. Neither a deadline nor an APC can end these waits ([`greatest_knot`]). Other
 //!   threads may run on, but none of them can untie it.
 //!
 //! Both are for good, as the laws say ([`stuck_stays`], [`knots_hold`]): whatever is called and however much time passes, none of these

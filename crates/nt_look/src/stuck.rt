@@ -115,8 +115,8 @@ fn has_ended(objects: &[Object], thread: u32) -> bool
     }
 }
 
-/// Whether the thread has ended, makes no call any more, or waits; and time alone does not end its wait. No APC is queued for an
-/// alertable one: it would have ended.
+/// Whether the thread has ended, makes no further call, or is in a wait that time alone does not end. No APC is queued for an
+/// alertable wait: it would have ended.
 fn is_hanging(core: &Core, over: &[bool], thread: u32) -> bool
     requires { thread < (state core.now).threads }
     ensures { (result ≡ true) ↔ IsHanging (unmarked over.now) (state core.now) thread }
@@ -129,7 +129,7 @@ fn is_hanging(core: &Core, over: &[bool], thread: u32) -> bool
 }
 
 /// Whether every thread that may call waits, and time alone ends no wait. Then none ever goes on (`stuck_stays`). The marked threads
-/// make no call any more; no mark is needed for those that have ended.
+/// make no further call; no mark is needed for those that have ended.
 pub fn is_stuck(core: &Core, over: &[bool]) -> bool
     ensures { (result ≡ true) ↔ IsStuck (unmarked over.now) (state core.now) }
 {

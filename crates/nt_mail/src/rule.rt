@@ -8,7 +8,7 @@ pub(crate) type Letters = Table<(), View, u64, MailRule, Global>;
 
 pub(crate) type Place = Seat<(), View>;
 
-/// What holds between any two steps. It is told the number of threads.
+/// What holds between any two steps, for a given number of threads.
 pub struct MailRule;
 
 impl TableRule<(), View, u64> for MailRule {

@@ -2,7 +2,7 @@
 //! A set of numbers as bits: a mark for each place, with the lowest marked place at hand.
 //!
 //! Which objects changed, so that waits on them are to be looked at? Which threads may have to be alerted? A dispatcher asks after every
-//! call, and usually the answer is: none, or one. So it must not look at all objects to answer, and a mark should cost no more than a bit.
+//! call, and usually the answer is: none, or one. So it must not look at all objects to answer, and a mark should cost one bit at most.
 //!
 //! The places are numbered from 0. Each has a bit, and 64 bits stand in a word. Above them stands a bit for each word, which is set exactly
 //! if the word is not 0; above these a bit for each of the words that they fill; and so three levels are enough for 262,144 places:

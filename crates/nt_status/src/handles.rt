@@ -134,7 +134,7 @@ impl Handles {
         Ok(())
     }
 
-    /// Names no handle any more. The room stays.
+    /// Empties the list. The room stays.
     pub fn clear(&mut self)
         ensures { self.new ≡ [] }
     {

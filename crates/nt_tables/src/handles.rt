@@ -16,7 +16,7 @@ pub struct Opened {
     pub access: Access,
 }
 
-/// A number that no object has: there are no more handles than this, and no more objects than handles.
+/// A number that no object has: there are at most this many handles, and at most as many objects as handles.
 const NO_OBJECT: u32 = MAX_HANDLES as u32;
 
 /// What a handle names, or nothing once it is closed, in eight bytes. (An `Option<Opened>` takes twelve.) Whoever reads one of its two
@@ -154,7 +154,7 @@ fn open_again(handles: &mut [Row], counts: &mut Vec<u32>, handle: Handle, opened
     handles[handle.get() as usize] = Row::new(opened);
 }
 
-/// Takes an open handle away, and counts it no more.
+/// Closes an open handle, and no longer counts it. Returns the object that it named.
 fn close(handles: &mut [Row], counts: &mut [u32], handle: Handle) -> ObjectNumber
     requires counted { AreHandlesCounted handles.old counts.old }
     requires open { IsSome (opened_at handles.old handle) }
@@ -228,7 +228,7 @@ impl HandleTable {
         }
     }
 
-    /// One handle for each of so many objects, with the number of its object and these rights.
+    /// One handle for each of `objects` objects, with the number of its object and these rights.
     pub fn new(alloc: Global, objects: usize, access: Access) -> Result<Self, AllocError>
         requires few { objects < 2 ^ 32 - 1 }
         ensures { IfOk result (λ table. table.opened ≡ own_handles objects access) }

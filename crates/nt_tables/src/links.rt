@@ -15,7 +15,7 @@ pub struct Link {
     pub next: OptionalMutex,
 }
 
-/// No first mutex for each of so many threads.
+/// For each of `threads` threads: its list of mutexes has no first one.
 pub fn no_firsts(alloc: Global, threads: usize) -> Result<Vec<OptionalMutex>, AllocError>
     ensures { IfOk result (λ firsts. firsts.items ≡ replicate threads None) }
 {

@@ -66,7 +66,7 @@ impl Owners {
         enter(&mut self.firsts, &mut self.links, thread, mutex);
     }
 
-    /// The thread owns this mutex no more.
+    /// The thread no longer owns this mutex.
     pub fn remove(&mut self, thread: ThreadId, mutex: ObjectNumber)
         requires { Contains (list_of self.old.lists thread) mutex }
         ensures { self.new ≡ record self.old { lists = removed self.old.lists thread mutex } }

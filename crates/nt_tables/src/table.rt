@@ -18,7 +18,7 @@ use nt_status::{ObjectNumber, Refusal, ThreadId};
 use std::alloc::{AllocError, Global};
 use std::marker::Model;
 
-/// The objects of so many threads that run.
+/// The objects of `count` threads that run.
 fn running_threads(alloc: Global, count: usize) -> Result<Vec<Object>, AllocError>
     ensures { IfOk result (λ objects. objects.items ≡ replicate count (Thread false)) }
 {
@@ -74,7 +74,7 @@ fn join_list(owners: &mut Owners, mutex: ObjectNumber, to: Option<ThreadId>)
     }
 }
 
-/// The mutex is in the list of its new owner from now on, and no more in that of its owner before.
+/// Moves the mutex from the list of its owner before to that of its new owner.
 fn pass(owners: &mut Owners, mutex: ObjectNumber, from: Option<ThreadId>, to: Option<ThreadId>)
     requires room { mutex < owners.old.room }
     requires from { (t : ℕ) → Contains (list_of owners.old.lists t) mutex ↔ (from ≡ Some t) }
@@ -154,7 +154,7 @@ impl Model for ObjectTable {
 }
 
 impl ObjectTable {
-    /// The objects of so many threads, which run and own nothing.
+    /// The objects of `threads` threads, which run and own nothing.
     pub fn new(alloc: Global, threads: usize) -> Result<Self, AllocError>
         ensures items { IfOk result (λ table. table.items ≡ replicate threads (Thread false)) }
         ensures threads { IfOk result (λ table. length table.owned ≡ threads) }
@@ -178,7 +178,7 @@ impl ObjectTable {
     pub fn agree(&self)
         ensures { OwnersAgree self.now.items self.now.owned }
     {
-        // Who uses a field is told what holds of all.
+        // The use of a field brings what the type keeps true of all its fields into the proof.
         let _ = &self.objects;
     }
 

@@ -64,7 +64,7 @@ impl Queues {
         })
     }
 
-    /// Makes room for so many blocks more.
+    /// Makes room for `additional` more blocks.
     pub fn reserve(&mut self, additional: usize) -> Result<(), AllocError>
         ensures room { OnOk result (HasRoomFor self.new additional) }
         ensures grows { self.old.capacity ≤ self.new.capacity }
@@ -153,7 +153,7 @@ impl Queues {
         }
     }
 
-    /// Makes room for the queues of so many objects.
+    /// Makes room for the queues of `count` objects.
     pub fn reserve_objects(&mut self, count: usize) -> Result<(), AllocError>
         ensures room { OnOk result (count ≤ self.new.object_room) }
         ensures grows { self.old.object_room ≤ self.new.object_room }

@@ -59,7 +59,7 @@ fn no_wait(alloc: Global) -> Wait {
     }
 }
 
-/// Makes the list so long. What the numbers are does not matter yet.
+/// Makes the list `count` long. What the numbers are does not matter yet.
 fn make_numbers(numbers: &mut SmallVec<BlockNumber, 4>, count: usize) -> Result<(), AllocError>
     ensures { OnOk result (length numbers.new.items ≡ count) }
 {
@@ -69,7 +69,7 @@ fn make_numbers(numbers: &mut SmallVec<BlockNumber, 4>, count: usize) -> Result<
     make_numbers_slow(numbers, count)
 }
 
-/// Makes the list anew, so long. It stands apart, since a wait mostly names as many objects as its thread's last one.
+/// Makes a new list, `count` long. A function of its own, since a wait mostly names as many objects as its thread's last one.
 #[inline(never)]
 fn make_numbers_slow(numbers: &mut SmallVec<BlockNumber, 4>, count: usize) -> Result<(), AllocError>
     ensures { OnOk result (length numbers.new.items ≡ count) }

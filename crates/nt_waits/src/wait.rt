@@ -1,4 +1,4 @@
-//! A wait, and what of it is told without a look.
+//! A wait, and the part of it that says nothing of its objects.
 ghost use Rattle.std.specs.Prelude.{◌≡◌};
 ghost use Rattle.nt_waits.specs.Waits.{about_of};
 
@@ -30,7 +30,7 @@ impl Clone for Wait {
     }
 }
 
-/// What of a wait is told without a look.
+/// The part of a wait that says nothing of its objects.
 #[derive(Clone, Copy, PartialEq, Eq, Debug)]
 pub struct About {
     pub alertable: bool,
@@ -38,7 +38,7 @@ pub struct About {
     pub deadline: Option<u64>,
 }
 
-/// What of this wait is told without a look.
+/// Whether this wait is alertable, and its deadline.
 pub fn tell(wait: &Wait) -> About
     ensures { result ≡ about_of wait.now }
 {
