@@ -25,7 +25,7 @@ __attribute__((visibility("hidden"))) int fstat(int file, struct stat *to)
     return __fxstat(OF_SYSTEM, file, to);
 }
 
-/* The kit's programs look here for x86-64-v2, whose features each system lets a program use. Of other parts none is told as usable. */
+/* The kit's programs look here for x86-64-v2, whose features each system lets a program use. No other features are reported as usable. */
 __attribute__((visibility("hidden"))) const struct cpuid_feature *__x86_get_cpuid_feature_leaf(unsigned part)
 {
     static const unsigned leaves[] = { 1, 7, 0x80000001 }, of_v2[] = { 0x982201, 0, 1 };

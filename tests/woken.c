@@ -39,7 +39,7 @@ static struct {
     volatile bool has_gone;   /* and has */
 } it;
 
-/* The thread has looked so often, and made so many instructions since. */
+/* How often the thread has looked, and how many instructions it has made since. */
 static struct {
     long pause;
     int looks, since;

@@ -1,6 +1,6 @@
 /* SPDX-License-Identifier: MIT OR Apache-2.0 */
-/* ---- What a run does to its turns, a line for each step, where turns=FILE asks for that. Each is one that the machine of crates/nt_schedule can be
- * told (src/told.rt); crates/nchoose reads them:
+/* ---- What a run does to its turns, a line for each step, where turns=FILE asks for that. Each is a step that the machine of crates/nt_schedule can
+ * follow (src/told.rt); crates/nchoose reads them:
  *
  * run [free]                      a run begins; deadlines may come early
  * comes                           there is a thread more

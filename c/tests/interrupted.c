@@ -131,7 +131,7 @@ static void wait_for_mine(void)
     must(WaitForSingleObject(mine, INFINITE) == WAIT_OBJECT_0);
 }
 
-/* Why threads wait is told under the lock; what comes after that is passed over. */
+/* Why threads wait is found out under the lock; what comes after that is passed over. */
 static bool has_locked;
 
 static void tell_why(void)

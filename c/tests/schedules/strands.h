@@ -63,7 +63,7 @@ struct strand {
     bool is_told_asleep;    /* it sleeps, as the trace has it */
     bool is_in_handler;     /* a handler of signals has interrupted it, */
     bool is_in_call;        /* and in a call, as the words' protocol has it */
-    uint64_t owes;          /* whom it has told something, asleep, and not woken since: a bit for each thread of that protocol */
+    uint64_t owes;          /* the sleepers that it has granted or called and not woken since: a bit for each thread of that protocol */
     struct telling {        /* what it is to tell (trace.h) */
         struct made_step {  /* its last steps, as many as there are: */
             const volatile void *word;

@@ -1,4 +1,4 @@
-//! Runs, as they are told line by line, beside the machine.
+//! Runs, written down line by line, compared with the machine.
 
 use crate::told_line::{Line, line_in};
 use memchr::memchr;
@@ -8,7 +8,7 @@ use std::alloc::{AllocError, Global};
 /// What is found.
 #[derive(Clone, Copy)]
 pub enum Found {
-    /// So many runs and steps, and the machine goes as each.
+    /// This number of runs and of steps, and the machine goes as each.
     Same(u64, u64),
     /// On this line it goes otherwise.
     Differs(u64, Differs),

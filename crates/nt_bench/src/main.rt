@@ -17,7 +17,7 @@ use turns::{Counts, Fault, Stage};
 /// How often a round is made where nothing is timed.
 const FEW: u64 = 3;
 
-/// What the command line asks for: so many rounds, timed or not, of all shapes or of one.
+/// What the command line asks for: how many rounds, timed or not, of all shapes or of one.
 #[derive(Clone, Copy)]
 struct Plan {
     rounds: u64,
@@ -66,7 +66,7 @@ struct Measured {
     took: Duration,
 }
 
-/// Makes the stage's round so many times.
+/// Makes the stage's round `rounds` times, and measures the time.
 fn timed(rt: &HostRuntime, stage: &mut Stage<'_>, rounds: u64) -> Result<Measured, Fault> {
     let began = Instant::now(rt).map_err(|_| Fault::Clock)?;
     let counts = stage.run(rounds)?;
@@ -74,7 +74,7 @@ fn timed(rt: &HostRuntime, stage: &mut Stage<'_>, rounds: u64) -> Result<Measure
     Ok(Measured { counts, took })
 }
 
-/// Opens a stage for the shape, and makes its round so many times.
+/// Opens a stage for the shape, and makes its round `rounds` times.
 fn measure(rt: &HostRuntime, shape: &Shape, rounds: u64) -> Result<Measured, Fault> {
     let mut stage = Stage::open(rt.alloc(), shape)?;
     timed(rt, &mut stage, rounds)

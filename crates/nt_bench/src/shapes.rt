@@ -43,7 +43,7 @@ impl Shape {
         Ok(self)
     }
 
-    /// A wait for the objects from this handle on, so many.
+    /// A wait for `count` objects, from the handle `first` on.
     fn wait(
         mut self,
         who: u32,

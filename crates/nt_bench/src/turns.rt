@@ -49,7 +49,7 @@ fn make(core: &mut Core, turn: &Turn) -> Result<u64, Refusal> {
     Ok(core.grants().len() as u64)
 }
 
-/// Makes so many calls, in turn and over and over, and answers how many pending waits they ended.
+/// Makes `calls` calls, in turn and over and over, and answers how many pending waits they ended.
 fn make_in_turn(core: &mut Core, turns: &[Turn], calls: u64) -> Result<u64, Refusal> {
     let mut grants = 0_u64;
     let mut place = 0_usize;
@@ -84,7 +84,7 @@ impl<'a> Stage<'a> {
         })
     }
 
-    /// Makes the round so many times.
+    /// Makes the round `rounds` times.
     pub fn run(&mut self, rounds: u64) -> Result<Counts, Refusal> {
         let calls = rounds.wrapping_mul(self.round.len() as u64);
         let grants = make_in_turn(&mut self.core, self.round, calls)?;

@@ -234,7 +234,7 @@ fn write_why(
 }
 
 /// Why threads wait: whether nothing can end the waits there are, which threads hold each other, and when something is due next, up to
-/// the moment `up_to`, in units of 100 ns. The threads marked in `over` make no call any more. `knot` has a place for each thread.
+/// the moment `up_to`, in units of 100 ns. The threads marked in `over` make no further call. `knot` has a place for each thread.
 ///
 /// Refused with 87 where `up_to` is above 2^62 or `knot` has another length, with 6 where the handle has no dispatcher, and with 8
 /// where memory is refused.

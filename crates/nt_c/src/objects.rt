@@ -28,7 +28,7 @@ pub extern "C" fn nt_duplicate(
     tell(nt.ask(who, &Call::Act(act)), out)
 }
 
-/// CloseHandle: the handle names nothing any more, and no other gets its number, unless the dispatcher gives numbers again.
+/// CloseHandle: the handle no longer names anything, and no other gets its number, unless the dispatcher gives numbers again.
 #[unsafe(no_mangle)]
 pub extern "C" fn nt_close_handle(nt: &mut Nt, who: u32, handle: u32, out: &mut NtReply) -> u32
     requires fit { IsFit nt.old }

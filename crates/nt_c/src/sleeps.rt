@@ -7,7 +7,7 @@ use crate::handle::Nt;
 use crate::numbers::{INVALID_HANDLE, NO_MORE, UNKNOWN_THREAD};
 use nt_sleepers::{Sleepers, Told};
 
-/// What a thread is told while it sleeps: that its wait ended with this status, or, where it is called, that it is to look at the time.
+/// What a thread learns while it sleeps: that its wait ended with this status, or, where it is called, that it is to look at the time.
 #[repr(C)]
 #[derive(Clone, Copy, PartialEq, Eq, Debug)]
 pub struct NtTold {
@@ -16,7 +16,7 @@ pub struct NtTold {
     pub called: bool,
 }
 
-/// What is told, in numbers.
+/// What a thread learns, in numbers.
 fn in_numbers(told: Told) -> NtTold
     ensures { result ≡ told_in_numbers told }
 {
@@ -45,11 +45,11 @@ fn sleep(sleepers: &mut Sleepers, who: u32, watches: bool) -> Option<u64>
     }
 }
 
-/// The wait of this thread pends, and it sleeps: it is told the moment to which it sleeps by itself, in units of 100 ns. Where a timer may
+/// The wait of this thread pends, and it sleeps. `out` gets the moment to which it sleeps by itself, in units of 100 ns. Where a timer may
 /// end its wait, it `watches`, and sleeps no longer than to the next moment at which anything is due, if nobody else does.
 ///
 /// Refused with 6 where the handle has no dispatcher, and with 536870915 where no thread has this number; 259 is answered where the thread
-/// sleeps until it is told.
+/// sleeps until its wait ends or it is called.
 #[unsafe(no_mangle)]
 pub extern "C" fn nt_pend(nt: &mut Nt, who: u32, watches: bool, out: &mut u64) -> u32
     requires fit { IsFit nt.old }
@@ -70,7 +70,7 @@ pub extern "C" fn nt_pend(nt: &mut Nt, who: u32, watches: bool, out: &mut u64) -
     0
 }
 
-/// This thread sleeps and watches no more, though its wait may pend. If a watcher has to look at the time in its place, `nt_told` tells.
+/// This thread no longer sleeps or watches, though its wait may pend. If a watcher has to look at the time in its place, `nt_told` names it.
 ///
 /// Refused as `nt_pend` is.
 #[unsafe(no_mangle)]
@@ -90,7 +90,7 @@ pub extern "C" fn nt_woke(nt: &mut Nt, who: u32) -> u32
     0
 }
 
-/// What the last call or tick told at this index: each wait that it ended, in their order, and then who is called.
+/// What threads learn of the last call or tick, by index: each wait that it ended, in their order, and then who is called.
 ///
 /// Refused with 6 where the handle has no dispatcher, and with 259 past the last.
 #[unsafe(no_mangle)]

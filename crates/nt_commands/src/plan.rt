@@ -16,7 +16,7 @@ use std::alloc::{AllocError, Global};
 pub enum Plan {
     /// Run the script in this file.
     Script(String),
-    /// Run so many threads beside the first one, for so many rounds.
+    /// Run `workers` threads beside the first one, each for `rounds` rounds.
     Threads { workers: u32, rounds: u32 },
 }
 

@@ -90,7 +90,7 @@ fn hand_on<W: Sink>(summary: Summary, writer: &mut W) -> Result<Summary, RunFaul
     }
 }
 
-/// Tries to hand on what the writer holds back of a script that has a fault, which is what is told then.
+/// Tries to hand on what the writer holds back of a script that has a fault. The fault is reported whether or not this fails.
 fn try_to_hand_on<W: Sink>(writer: &mut W)
     requires { (W.seen writer.old).failed < 2 ^ 64 - 1 }
     ensures kept { Keeps (W.seen writer.old).held (W.seen writer.new).held }

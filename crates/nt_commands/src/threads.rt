@@ -11,7 +11,7 @@ use std::alloc::Global;
 use std::sync::Wait;
 use std::thread::Threads;
 
-/// Runs so many threads beside the first one, each for so many rounds, and writes six lines that tell of it. Answers the exit
+/// Runs `workers` threads beside the first one, each for `rounds` rounds, and writes six lines about the run. Answers the exit
 /// status: 0 where all was done and handed on; 1 where memory was refused, and nothing is written then, or where a write failed;
 /// 2 unless there are 1 to 64 workers and 1 to 1000 rounds. Why it is not 0 is said on `errors`; a failure to write that is
 /// ignored.
@@ -48,7 +48,7 @@ fn tell_lines<W: Sink, E: Sink>(lines: &[u8], writer: &mut W, errors: &mut E) ->
     }
 }
 
-/// Whether there may be so many workers and rounds.
+/// Whether there may be these numbers of workers and rounds.
 fn are_lawful(workers: u32, rounds: u32) -> bool
     ensures { result ≡ are_lawful_counts workers rounds }
 {

@@ -10,7 +10,7 @@
 //! | `without_wake_up_of_who_revoked` | who has revoked a favour sleeps, and nobody is to wake it |
 //! | `with_a_wake_up_owed_in_sleep` | a handler's call and who has revoked sleep for one another |
 //! | `with_a_sleeper_forgotten` | a thread sleeps on the lock, and nobody is to wake it |
-//! | `with_a_grant_overwritten` | a wait that was granted is not told so |
+//! | `with_a_grant_overwritten` | a thread whose wait was granted never learns of it |
 //! | `without_wake_up_of_who_was_told` | a wait that was granted sleeps on, and nobody is to wake it |
 //! | `without_second_look_under_the_latch` | a change is lost |
 //!

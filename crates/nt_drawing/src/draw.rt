@@ -53,7 +53,7 @@ fn report_of(
     }
 }
 
-/// What the run comes to, after so many lines.
+/// What the run comes to, after `count` lines.
 fn outcome_of(
     alloc: Global,
     file: &[u8],
@@ -94,9 +94,10 @@ fn play(
     }
 }
 
-/// Runs a script, and answers a part of it as a drawing, or that there is no such part. The script ends at its first zero byte. `file` is what the drawing calls it.
+/// Runs a script, and answers a part of it as a drawing, or that there is no such part. The script ends at its first zero byte. `file` is
+/// what the drawing calls it.
 ///
-/// A line with a fault, or no `threads` line, is told as `ntrun script` tells it; so is want of memory.
+/// A line with a fault, or no `threads` line, is reported as `ntrun script` reports it; so is want of memory.
 pub fn drawing_on(
     alloc: Global,
     file: &[u8],

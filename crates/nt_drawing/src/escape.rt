@@ -87,7 +87,7 @@ pub(crate) fn bytes_in(pixels: u32, size: u32) -> usize {
     (pixels.saturating_sub(6).saturating_mul(25) / size.saturating_mul(14).max(1)) as usize
 }
 
-/// About how many pixels wide a text of so many bytes is, at this size.
+/// About how many pixels wide a text of `bytes` bytes is, at this size.
 pub(crate) fn width_of(bytes: usize, size: u32) -> u32 {
     let units = (bytes.min(4096) as u32).saturating_mul(size);
     (units.saturating_mul(14) / 25).saturating_add(6)

@@ -17,7 +17,7 @@ struct Shared {
     timer: Handle,
     /// Counts the pieces of work that nobody has taken.
     work: Handle,
-    /// Is set once there is no more work.
+    /// Is set once no work is left.
     stop: Handle,
     /// The same event, by a handle that may only be waited for.
     stopped: Handle,
@@ -53,7 +53,7 @@ fn lead(driver: &mut Driver, shared: &Shared, left: u32) -> Result<(), Refusal> 
     driver.exit(0)
 }
 
-/// Another guest goes on: it has taken a piece of work, or is told to stop.
+/// Another guest goes on: it has taken a piece of work, or is to stop.
 fn follow(
     driver: &mut Driver,
     shared: &Shared,
@@ -82,7 +82,7 @@ fn begin(driver: &mut Driver, shared: &Shared, out: &mut impl Write) -> Result<(
     Ok(())
 }
 
-/// The guests go on, one after another, until nothing is due any more.
+/// The guests go on, one after another, until nothing is due.
 fn take_turns(driver: &mut Driver, shared: &Shared, out: &mut impl Write) -> Result<(), Fault> {
     let mut left = PIECES;
     for _ in 0..u64::MAX {

@@ -92,7 +92,7 @@ impl Again {
         }
     }
 
-    /// Takes lines to the one that was told, and puts all about it.
+    /// Reads on to the line whose fault was reported, and puts all about it.
     fn explain<R: Source>(
         &mut self,
         alloc: Global,
@@ -123,8 +123,8 @@ fn message_of<R: Source>(
     Ok(out)
 }
 
-/// Runs the script in this file once more, up to the line whose fault was told, and says all about it on `errors`. A failure to read the file or to
-/// say it is ignored, and so is a want of memory: the fault itself was told before.
+/// Runs the script in this file once more, up to the line whose fault was reported, and says all about it on `errors`. A failure to read the file
+/// or to say it is ignored, and so is a want of memory: the fault itself was reported before.
 pub fn explain<F: Files + AllocGlobal, E: Sink>(
     files: &F,
     path: &str,

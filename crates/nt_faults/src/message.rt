@@ -58,7 +58,7 @@ fn put_other(out: &mut Vec<u8>, other: &[u8]) -> Result<(), AllocError> {
     put_text(out, "`?\n")
 }
 
-/// Puts what may have been meant by a word that can't stand in this place, where that can be told.
+/// Puts what may have been meant by a word that can't stand in this place, where that is known.
 fn put_hint(
     alloc: Global,
     out: &mut Vec<u8>,
@@ -177,7 +177,7 @@ fn put_too_long(out: &mut Vec<u8>, line: &[u8]) -> Result<(), AllocError> {
     put_text(out, " .. goes on after 4096 bytes\n")
 }
 
-/// Puts all about a fault that was told of this line: its place; the line, with the word marked; what may have been meant; and what can stand there.
+/// Puts all about the fault reported of this line: its place; the line, with the word marked; what may have been meant; and what can stand there.
 /// `bindings` is what the lines before it bound, and `None` before the `threads` line.
 pub(crate) fn put_message(
     alloc: Global,

@@ -78,7 +78,7 @@ impl Place {
         }
     }
 
-    /// Whether what stands here is told by its letters: a word, a thread or a name.
+    /// Whether what stands here is known by its letters: a word, a thread or a name.
     pub(crate) fn is_spelled(self) -> bool {
         match self {
             Place::Opening
@@ -103,7 +103,7 @@ impl Place {
         }
     }
 
-    /// What can stand here; nothing at a line's end, and the keywords are told one by one.
+    /// What can stand here. It is empty at a line's end, and for keywords, which the message lists one by one.
     pub(crate) fn stands(self) -> &'static str {
         match self {
             Place::Opening => "threads, and then how many: 1 to 256",

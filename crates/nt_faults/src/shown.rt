@@ -83,7 +83,7 @@ fn put_blank(out: &mut Vec<u8>, text: &[u8]) -> Result<(), AllocError> {
     Ok(())
 }
 
-/// Puts a byte so many times.
+/// Puts a byte `times` times.
 fn put_times(out: &mut Vec<u8>, byte: u8, times: usize) -> Result<(), AllocError> {
     for _ in 0..times {
         out.push(byte)?;

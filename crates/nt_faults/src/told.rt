@@ -1,10 +1,10 @@
-//! A fault that was told, and of which more is asked for.
+//! A fault that was reported, and of which more is asked for.
 
 use nt_lines::{MAX_DIGITS, number_of};
 use std::alloc::AllocError;
 use std::env::{self, Env, VarError};
 
-/// A fault that was told: what the script is called, the number of its line, and the words of the fault.
+/// A fault that was reported: what the script is called, the number of its line, and the words of the fault.
 #[derive(Drop)]
 pub struct Told {
     pub(crate) name: String,

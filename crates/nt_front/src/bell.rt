@@ -1,6 +1,7 @@
 //! A thread's bell, on which that thread alone sleeps.
 //!
-//! How often it had rung is read by `look` alone, and only a `Seen` sleeps. So whoever sleeps read that before, and can't read it anew.
+//! Only `look` reads how often it has rung, and only the `Seen` that it returns can sleep. So whoever sleeps has read the number
+//! before, and misses no ring since then.
 ghost use Rattle.std.specs.Prelude.{◌≡◌};
 
 use nt_status::ThreadId;

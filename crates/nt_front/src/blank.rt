@@ -175,7 +175,7 @@ fn make_rest<N: Named>(alloc: Global, blank: &Blank) -> Result<Made<N>, Refusal>
     }
 }
 
-/// Whether a front may have so many threads, and its journal so much room.
+/// Whether a front may have `threads` threads, and its journal room for `room` entries.
 fn is_lawful(threads: u32, room: usize) -> bool
     ensures { result ≡ is_lawful_front threads room }
 {

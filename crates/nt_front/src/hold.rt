@@ -12,10 +12,10 @@ use std::mem::ManuallyDrop;
 /// How often a thread looks for its grant before it sleeps, where looks help: longer than a thread takes to wake that sleeps.
 pub(crate) const LOOKS: u32 = 1000;
 
-/// Once in so many of its calls a thread tries again whether looks help.
+/// A thread tries again whether looks help once in this number of its calls.
 const CALLS_PER_TRY: u64 = 4096;
 
-/// A try is so many calls, of which those that wait look: two, since a thread's waits may be every other call.
+/// A try is this number of calls, of which those that wait look: two, since a thread's waits may be every other call.
 const TRIES: u64 = 2;
 
 /// What every hold has: the thread's seat, the greatest moment that the thread knows, and how many calls and ticks it made.

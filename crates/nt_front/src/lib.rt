@@ -3,7 +3,7 @@
 //!
 //! Whoever takes the lock finds a lawful dispatcher, and beside it the journal: each call and tick with its answer, and each wait
 //! that ended, in their order. With the parts of it that were handed out before, the journal is a run of the machine from its opening
-//! to the state that lies beside it, so all that is proved of runs is true of what the threads were told.
+//! to the state that lies beside it, so all that is proved of runs is true of what the threads learned.
 //!
 //! ```text
 //!    thread 0: a pass      thread 1: a sleeper      thread 2: a pass
@@ -18,7 +18,7 @@
 //! ```
 //!
 //! - A **pass** is a thread's right to call. It knows the calls that it made, with their numbers in the journal and their answers,
-//!   the grants that it was given, and the greatest moment that it was told. There is one for each thread, and it can't be copied
+//!   the grants that it was given, and the greatest moment that it knows. There is one for each thread, and it can't be copied
 //!   or lost: it is spent by what turns it into another hold.
 //! - A wait that pends turns the pass into a **sleeper**, which can only `poll`, `sleep`, or be there at the end. A poll reads one
 //!   word and never waits for the lock; once the wait is granted, it gives the pass back with the entry of the grant. A thread that

@@ -27,7 +27,7 @@ impl<N: Named> Locked<N> {
         }
     }
 
-    /// The book, once no thread can take the lock any more.
+    /// The book, once no thread can take the lock any longer.
     pub(crate) fn into_inner(self) -> Book<N> {
         self.book.into_inner()
     }

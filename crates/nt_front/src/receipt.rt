@@ -1,4 +1,4 @@
-//! What is told of entries.
+//! Receipts for entries, and parts of the journal.
 ghost use Rattle.std.specs.Prelude.{◌≡◌};
 
 use nt_core::{Core, Reply};

@@ -82,7 +82,7 @@ impl Model for Bells {
 }
 
 impl Bells {
-    /// A bell for each of so many threads.
+    /// A bell for each of `threads` threads.
     ///
     /// Refused with 8 where memory is refused.
     #[tactic(auto, using(crate::proofs::Belling::one_bell_more))]

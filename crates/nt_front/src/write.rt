@@ -1,4 +1,4 @@
-//! How entries are written, and told to their threads.
+//! How entries are written, and how their threads learn of them.
 ghost use Rattle.std.specs.Prelude.{◌≡◌, ◌+◌, ◌-◌, ◌<◌, ◌≤◌, ◌++◌, ◌∷◌, [], length, map, vec_len, vec_capacity, ℕ, Result, IfOk, IsTrue};
 ghost use Rattle.nt_status.specs.declared.refusal.Refusal.{Refusal};
 ghost use Rattle.nt_calls.specs.Moves.{one_if};

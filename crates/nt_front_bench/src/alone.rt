@@ -79,7 +79,7 @@ fn create_timers<N: Named, R: Wait>(
     }
 }
 
-/// Sets so many timers, each due a millisecond after the one before, and periodic, so that one is due in each millisecond.
+/// Sets `timers` timers, each due a millisecond after the one before, and periodic, so that one is due in each millisecond.
 fn arm<N: Named, R: Wait>(
     rt: &R,
     front: &Front<N>,
@@ -223,7 +223,7 @@ fn any_of_64<N: Named, R: Wait>(
     pass
 }
 
-/// Takes so many parts of the journal.
+/// Takes `rounds` parts of the journal.
 fn parts<N: Named, R: Wait>(
     rt: &R,
     front: &Front<N>,

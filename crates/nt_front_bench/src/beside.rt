@@ -64,7 +64,7 @@ fn rest<N: Named, R: Wait>(
     }
 }
 
-/// Makes the rounds of both threads. What is told is of the pairs alone.
+/// Makes the rounds of both threads. Only the calls and the time of the pairs are added to `told`.
 pub fn beside<N: Named + Send + Sync, R: Threads + Wait + Clock + Sync>(
     rt: &R,
     alloc: Global,

@@ -33,7 +33,7 @@ use told::{Fault, Told};
 /// How often a round is made where nothing is timed.
 const FEW: u32 = 3;
 
-/// What the command line asks for: one shape, so many rounds of it; or a few rounds of each.
+/// What the command line asks for: a number of rounds of one shape, or a few rounds of each.
 #[derive(Clone, Copy)]
 enum Plan {
     Each,

@@ -19,7 +19,7 @@ use std::sync::Wait;
 use std::thread::Threads;
 use std::time::Clock;
 
-/// Makes so many rounds of the shape. Every answer was the one expected.
+/// Makes `rounds` rounds of the shape. Every answer was the one expected.
 pub fn measure<R: Threads + Wait + Clock + Sync>(
     rt: &R,
     alloc: Global,
@@ -225,7 +225,7 @@ struct Room<N: Named> {
 }
 
 impl<N: Named> Room<N> {
-    /// Room for so many threads.
+    /// Room for `threads` threads.
     fn new(alloc: Global, threads: usize) -> Result<Room<N>, AllocError>
         ensures carriers { IfOk result (λ r. (r.carriers.items ≡ []) × (threads ≤ vec_capacity r.carriers)) }
         ensures back { IfOk result (λ r. (r.back.items ≡ []) × (threads ≤ vec_capacity r.back)) }
@@ -254,7 +254,7 @@ impl<N: Named> Room<N> {
     }
 }
 
-/// Takes the memory for the way, opens the front, and has its threads do the plan. What is told has the releases of the history as its grants.
+/// Takes the memory for the way, opens the front, and has its threads do the plan. The result's grants are the releases in the history.
 fn planned<N: Named + Send + Sync, R: Threads + Wait + Clock + Sync>(
     rt: &R,
     alloc: Global,

@@ -18,11 +18,11 @@ pub enum Kind {
     AnyOf64,
     /// 64 threads wait for all of a common event and one of their own. One's own is set, and then the common one; it waits again.
     OneOf64,
-    /// One of so many periodic timers comes due in a tick.
+    /// One of this number of periodic timers comes due in a tick.
     Ticks(u32),
     /// Two threads set each other's event and wait for their own.
     RoundTrip,
-    /// So many workers wait for a mutex, release a semaphore and release the mutex, as `ntrun threads` has them do.
+    /// This number of workers wait for a mutex, release a semaphore and release the mutex, as `ntrun threads` has them do.
     Workers(u32),
     /// The calls of `Event` on the dispatcher alone, with no lock and no journal.
     Core,
@@ -224,7 +224,7 @@ impl Shape {
         Handle::new(self.first_handle().wrapping_add(2))
     }
 
-    /// How many entries the calls that set the stage and so many rounds write at the most.
+    /// How many entries the calls that set the stage and `rounds` rounds write at the most.
     pub fn entries(&self, rounds: u32) -> usize {
         let (stage, each) = match self.kind {
             Kind::AnyOf64 => (64, 1),

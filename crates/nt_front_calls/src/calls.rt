@@ -178,7 +178,7 @@ impl<'f, 'r, N: Named, R: Wait> Calls<'f, 'r, N, R> {
         self.make_handle(pass, Act::duplicate(handle, access))
     }
 
-    /// CloseHandle: the handle names nothing any more, and no other gets its number unless the front lasts.
+    /// CloseHandle: the handle no longer names anything, and no other gets its number unless the front lasts.
     pub fn close(&self, pass: &mut Pass<N>, handle: Handle) -> Result<Told<()>, Refused>
         ensures { CallIsDone N.front pass.old (Call.Act (Act.Close handle)) result pass.new }
     {

@@ -18,7 +18,7 @@ pub fn tick_along<N: Named, R: Host>(
 ) -> (Held<N>, Result<(), Fault>) {
     let calls = Calls::of(front, rt);
     let (mut pass, ticked) = tick_all(&calls, rt, pass);
-    // Whatever happened, the others are told to stop.
+    // Whatever happened, the others are to stop.
     let stopped = calls.set_event(&mut pass, shared.stop);
     let replayed = replay_part(front, rt, &mut pass);
     let (held, ended) = calls.exit(pass);

@@ -14,7 +14,7 @@ pub struct Shared {
     pub timer: Handle,
     /// Counts the pieces of work that nobody has taken.
     pub work: Handle,
-    /// Is set once there is no more work.
+    /// Is set once no work is left.
     pub stop: Handle,
 }
 

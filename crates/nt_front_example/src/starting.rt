@@ -24,7 +24,8 @@ impl<N: Named + Send> Started<N> {
     }
 }
 
-/// Starts a thread. Where none can be made all are told to stop, so that its life is short, and it is lived here.
+/// Starts a thread. Where none can be made, this thread sets the event that stops all, and does the new thread's work
+/// itself, which is short then.
 fn start<'s, 'e: 's, N: Named + Send + Sync + 'e, R: Host>(
     scope: &'s Scope<'s, &'e ()>,
     front: &'e Front<N>,

@@ -87,7 +87,7 @@ fn hand_out<N: Named, R: Host>(
     (pass, Ok(0))
 }
 
-/// Does work until it is told to stop, and sleeps while there is none.
+/// Does work until the stop event is set, and sleeps while there is none.
 fn follow<N: Named, R: Host>(
     calls: &Calls<'_, '_, N, R>,
     pass: Pass<N>,
@@ -107,7 +107,7 @@ fn follow<N: Named, R: Host>(
     (pass, Ok(u32::MAX))
 }
 
-/// Does work until it is told to stop, and polls while there is none.
+/// Does work until the stop event is set, and polls while there is none.
 fn follow_by_polls<N: Named, R: Host>(
     calls: &Calls<'_, '_, N, R>,
     pass: Pass<N>,

@@ -43,7 +43,7 @@ fn parse_line(alloc: Global, bindings: &Bindings, line: &[u8]) -> Result<Stateme
     parse_statement(alloc, bindings, words)
 }
 
-/// What a line after `threads` says, where so many threads and these names are bound. `Memory` where a name or a list of objects had no room.
+/// What a line after `threads` says, where these threads and names are bound. `Memory` where a name or a list of objects had no room.
 pub fn read_statement(
     alloc: Global,
     bindings: &Bindings,

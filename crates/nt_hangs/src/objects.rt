@@ -209,7 +209,7 @@ fn object_at(core: &Core, number: u32) -> Object
     }
 }
 
-/// That no handle names the object any more, if that is so.
+/// That no handle names the object any longer, if that is so.
 fn unopened_text(core: &Core, object: ObjectNumber) -> &'static [u8]
     ensures { result.now ≡ unopened_text (state core.now) object }
 {

@@ -8,7 +8,7 @@ use nt_devices::Sink;
 use nt_lines::{MAX_DIGITS, number_of};
 use std::alloc::{AllocError, Global};
 
-/// The most calls that are told one by one.
+/// The most refused calls that are listed one by one.
 const MOST_TOLD: u64 = 20;
 
 /// Why a call is refused with this number.
@@ -84,7 +84,7 @@ pub fn refusals_line(alloc: Global, count: u64, words: &[u8]) -> Result<Vec<u8>,
     Ok(line)
 }
 
-/// The exit status of a report, where so many calls were refused: 2 where one was, if that counts as a fault.
+/// The exit status of a report, where `refused` calls were refused: 2 where one was, if `strict` counts that as a fault.
 fn refused_code(strict: bool, refused: u64, code: u8) -> u8
     ensures { result ≡ refused_code strict refused code }
 {

@@ -93,7 +93,7 @@ fn put_report(
     put_waiters(out, session, objects, told, since)
 }
 
-/// What is told of a script, and the exit status that goes with it.
+/// What is reported of a script, and the exit status that goes with it.
 #[derive(Drop)]
 pub struct Report {
     pub text: Vec<u8>,
@@ -101,7 +101,7 @@ pub struct Report {
     pub code: u8,
 }
 
-/// What is told of a script, and of its calls that were refused.
+/// What is reported of a script, and of its calls that were refused.
 #[derive(Drop)]
 pub struct Found {
     pub report: Report,
@@ -121,7 +121,7 @@ pub fn last_moment() -> Moment
     }
 }
 
-/// The report of a session after so many lines, where the marked threads make no call.
+/// The report of a session after `count` lines, where the marked threads make no call.
 fn report_of(
     alloc: Global,
     file: &[u8],
@@ -148,7 +148,7 @@ fn report_of(
 }
 
 impl Watch {
-    /// The report of what is seen after so many lines, where the marked threads make no call.
+    /// The report of what is seen after `count` lines, where the marked threads make no call.
     fn tell(
         &self,
         alloc: Global,
@@ -238,7 +238,7 @@ impl Watch {
 /// Runs a script up to a line, or to its end, and reports why its threads wait there. The script ends at its first zero byte. `file` is
 /// what the report calls it. A thread without a line in the whole script is none of the run's, and ends no wait.
 ///
-/// A line with a fault, or no `threads` line, is told as `ntrun script` tells it; so is want of memory.
+/// A line with a fault, or no `threads` line, is reported as `ntrun script` reports it; so is want of memory.
 pub fn report_on(
     alloc: Global,
     file: &[u8],

@@ -36,7 +36,7 @@ fn marks_below(marks: &[bool], thread: u32) -> usize
     marks_in(&marks[..marks.len().min(thread as usize)])
 }
 
-/// What stands before the name of the thread after so many of them.
+/// What stands before the next of `count` names: nothing before the first, `and` before the last, else a comma.
 fn separator(told: usize, count: usize) -> &'static [u8]
     ensures { result.now ≡ separator told count }
 {

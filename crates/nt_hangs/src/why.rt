@@ -58,7 +58,7 @@ pub fn tell<E: Sink>(alloc: Global, fault: RunFault, errors: &mut E) -> u8
     }
 }
 
-/// What is said of a line that there is not, of so many.
+/// What is said where line `last` is asked for and the script has only `count` lines.
 fn past_line(alloc: Global, last: u64, count: u64) -> Result<Vec<u8>, AllocError>
     ensures { IfOk result (λ line. line.items ≡ past_text (Some last) count) }
 {
@@ -71,7 +71,7 @@ fn past_line(alloc: Global, last: u64, count: u64) -> Result<Vec<u8>, AllocError
     Ok(line)
 }
 
-/// Says that there is no such line among so many, and answers the exit status.
+/// Says that the script has only `count` lines, and answers the exit status.
 fn say_past<E: Sink>(alloc: Global, last: u64, count: u64, errors: &mut E) -> u8
     ensures { SaysPast (past_text (Some last) count) (E.seen errors.old) (E.seen errors.new) result }
 {
@@ -81,7 +81,7 @@ fn say_past<E: Sink>(alloc: Global, last: u64, count: u64, errors: &mut E) -> u8
     }
 }
 
-/// Shows what was found, unless the line that is asked for is after the last of so many.
+/// Shows what was found, unless the line that is asked for comes after line `count`, the last one.
 fn show_asked<W: Sink, E: Sink>(
     alloc: Global,
     found: &Found,

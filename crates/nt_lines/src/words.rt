@@ -71,7 +71,7 @@ fn value_of(digits: &[u8]) -> Option<u64>
     Some(value)
 }
 
-/// The most digits of a number of 64 bits. One with a sign takes no more bytes.
+/// The most digits of a number of 64 bits. One with a sign takes at most as many bytes.
 pub const MAX_DIGITS: usize = 20;
 
 /// A number of at most `most` digits.

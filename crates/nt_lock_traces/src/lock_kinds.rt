@@ -84,7 +84,7 @@ pub enum HandlingStep {
     Resumes(Frame),
 }
 
-/// What an event is: a step of the protocol, with what a step of one kind does in two ways told apart.
+/// What an event is: a step of the protocol. A step that is done in two ways has two kinds here.
 #[derive(Clone, Copy, Debug, PartialEq, Eq)]
 pub enum LockKind {
     Favoured(FavouredStep),

@@ -13,7 +13,7 @@ use nt_timeline::Part;
 /// How many states may be met at the most.
 const MOST_STATES: u64 = 4_000_000_000;
 
-/// How many may, if nothing is told.
+/// How many may, where the command line does not say.
 const MANY_STATES: u64 = 1_000_000;
 
 /// What the program is to do.
@@ -32,7 +32,7 @@ pub enum Look<'a> {
         drawing: Option<Drawing<'a>>,
         strict: bool,
     },
-    /// Explore the orders of the lines of the script in this file, until so many states are met.
+    /// Explore the orders of the lines of the script in this file, until `most` states are met.
     Explore {
         file: &'a str,
         most: u64,
@@ -256,7 +256,7 @@ fn asked_of(command: Command, strict: bool, words: &[String]) -> Option<Look<'_>
     }
 }
 
-/// What the words ask for, the program's own name first. `Err` has the command whose usage is to be told, or none for the usage of all.
+/// What the words ask for, the program's own name first. `Err` has the command whose usage is to be shown, or none for the usage of all.
 pub fn look_of(words: &[String]) -> Result<Look<'_>, Option<Command>>
     ensures { MatchResult result (λ look. look_of (map string_bytes words.now) ≡ Ok (look_asked look))
         (λ usage. look_of (map string_bytes words.now) ≡ Err usage) }

@@ -36,7 +36,7 @@ fn explore_input<W: Sink, E: Sink>(
     }
 }
 
-/// Explores the orders of the script that the reader gives, until so many states are met, and writes which hangs. `file` is what the report
+/// Explores the orders of the script that the reader gives, until `most` states are met, and writes which hangs. `file` is what the report
 /// calls the script.
 ///
 /// Answers the exit status: 0 if none hangs; 3 if some order hangs; 4 if the bound was met before any did; 2 if a line has a fault; 1 if

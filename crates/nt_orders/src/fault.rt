@@ -31,7 +31,7 @@ fn reason_of(fault: OrdersFault) -> &'static str
     }
 }
 
-/// The line of which it is told, if it is told of one.
+/// The line that the fault is in, if it is in one.
 fn line_of(fault: OrdersFault) -> Option<u64>
     ensures { result ≡ order_line fault }
 {

@@ -48,7 +48,7 @@ fn stuck_text() -> &'static [u8]
     b"stuck: whoever has a line left waits, and nothing can end that"
 }
 
-/// Puts who hangs: those that hold each other, or all that wait. The lines of `told` tell names.
+/// Puts who hangs, by the names that the script's comments give: those that hold each other, or all that wait.
 pub(crate) fn put_hang(
     out: &mut Vec<u8>,
     core: &Core,

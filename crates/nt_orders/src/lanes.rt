@@ -124,7 +124,7 @@ fn find(session: &Session, alloc: Global, line: &[u8]) -> Result<Option<(u32, As
     }
 }
 
-/// No line yet, for so many threads and the ticks.
+/// For each of `threads` threads and for the ticks: no line yet.
 fn no_lines(alloc: Global, threads: u32) -> Result<Vec<Vec<Line>>, AllocError> {
     let mut lines = Vec::new(alloc);
     for _lane in 0..threads as usize + 1 {
@@ -196,7 +196,7 @@ impl Script {
         }
     }
 
-    /// Reads the lines after so many.
+    /// Reads the lines after the first `count`.
     fn read_lanes(&mut self, alloc: Global, count: u64, input: &[u8]) -> Result<(), OrdersFault>
         requires few { count + length input.now < 2 ^ 64 }
         ensures plan { OnOk result (ReadsLanes (progress self.old.session) (lines_of input.now) self.old.plan self.new.plan) }

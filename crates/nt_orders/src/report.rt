@@ -153,7 +153,7 @@ impl Script {
         }
     }
 
-    /// The report of what was explored. The lines of `told` tell names.
+    /// The report of what was explored, with the names that the script's comments give.
     fn report(
         &mut self,
         alloc: Global,
@@ -198,7 +198,7 @@ impl Script {
     }
 }
 
-/// Explores the orders of a script's lines until so many states are met, and reports. The script ends at its first zero byte. `file` is what
+/// Explores the orders of a script's lines until `most` states are met, and reports. The script ends at its first zero byte. `file` is what
 /// the report calls it; threads and objects go by the names that its comments tell, as `; h256 is accounts`.
 pub fn report_on(
     alloc: Global,

@@ -55,7 +55,7 @@ fn put_text(out: &mut Vec<u8>, width: usize, text: &[u8]) -> Result<(), AllocErr
     out.extend_from_slice(b"    ")
 }
 
-/// Puts a step, after so many spaces.
+/// Puts a step, after `indent` spaces.
 fn put_row(
     out: &mut Vec<u8>,
     indent: usize,
@@ -72,7 +72,7 @@ fn put_row(
     out.extend_from_slice(b"\n")
 }
 
-/// Puts the steps, each after so many spaces.
+/// Puts the steps, each after `indent` spaces.
 pub(crate) fn put_rows(out: &mut Vec<u8>, indent: usize, rows: &[Row]) -> Result<(), AllocError>
     ensures { OnOk result (out.new.items ≡ out.old.items ++ rows_text indent rows.now) }
 {

@@ -13,7 +13,7 @@ pub(crate) fn digits_in(number: u64) -> usize
     buffer.format(number).len()
 }
 
-/// Puts so many spaces.
+/// Puts `count` spaces.
 pub(crate) fn put_gap(out: &mut Vec<u8>, count: usize) -> Result<(), AllocError>
     ensures { OnOk result (out.new.items ≡ out.old.items ++ gap count) }
 {

@@ -60,7 +60,7 @@ impl Script {
         }
     }
 
-    /// The lanes go, one after another, and each step is told. In `places` stands how far each lane is.
+    /// The lanes go, one after another; each step is returned. `places` says how far each lane is.
     pub(crate) fn walk(
         &self,
         alloc: Global,
@@ -95,7 +95,7 @@ impl Script {
         }
     }
 
-    /// By thread, whether it makes no call any more: no line is left for it, and it does not wait.
+    /// By thread, whether it makes no further call: no line is left for it, and it does not wait.
     pub(crate) fn over(
         &self,
         alloc: Global,

@@ -42,7 +42,7 @@ pub struct ParkSeat {
     pub owes: [bool; MOST_PARKED],
 }
 
-/// What an event is: a step of the protocol, with what a step of one kind does in several ways told apart.
+/// What an event is: a step of the protocol. A step that is done in several ways has as many kinds here.
 #[derive(Clone, Copy, Debug, PartialEq, Eq)]
 pub enum ParkKind {
     Counts,

@@ -1,4 +1,4 @@
-//! A run that is told, followed by the machine.
+//! The machine follows what a run reports of its steps.
 
 ghost use Rattle.std.specs.Prelude.{◌≡◌, IfOk, OnOk, OnErr};
 ghost use Rattle.nt_schedule.specs.Turns.{course_of, beginning, is_turn_of, turn_after, followed, is_same, is_same_thread, turn_differs, differs};
@@ -127,7 +127,7 @@ impl Run {
         }
     }
 
-    /// Goes on by what is told. Answers how the machine goes otherwise there; none, where it goes so.
+    /// Goes on by the reported step. Answers how the machine goes otherwise there, or none where it goes the same way.
     pub fn follow(&mut self, told: Told) -> Result<Option<Differs>, AllocError>
         ensures found { IfOk result (λ found. found ≡ differs told (course_of self.old)) }
         ensures course { OnOk result (course_of self.new ≡ followed told (course_of self.old)) }

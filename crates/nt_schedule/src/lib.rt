@@ -4,7 +4,7 @@
 //!
 //! ```text
 //!    threads, the time --> who goes on: a thread, the clock, nobody      Turns::turn
-//!    a run that is told --> where it goes otherwise                      Run::follow
+//!    a run's own report --> where it goes otherwise                      Run::follow
 //!    the path of a run --> what is asked of the next one                 next_branch
 //! ```
 //!

@@ -25,7 +25,7 @@ pub struct Turned {
     pub time: u64,
 }
 
-/// What is told of one step.
+/// What a run reports of one step.
 #[derive(Clone, Copy, Debug)]
 pub enum Told {
     /// There is one thread more.
@@ -35,7 +35,7 @@ pub enum Told {
     /// What the thread sleeps for has come by another way.
     Rouses(usize),
     Ends(usize),
-    /// So much time passes with a step.
+    /// This much time passes with a step.
     Passes(u64),
     Turns(Turned),
     /// Nobody can go on, and nothing is due.

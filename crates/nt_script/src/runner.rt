@@ -100,7 +100,7 @@ impl Runner {
         }
     }
 
-    /// Writes which threads still wait, after so many lines.
+    /// Writes which threads still wait, after `lines` lines.
     fn end<W: Sink>(&mut self, lines: u64, writer: &mut W) -> Result<Summary, RunFault>
         requires { lines + 1 < 2 ^ 64 }
         ensures lines { IfOk result (λ summary. summary.lines ≡ lines) }

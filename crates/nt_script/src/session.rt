@@ -258,7 +258,7 @@ impl Session {
         Ok(())
     }
 
-    /// What the run came to, after so many lines.
+    /// What the run came to, after `lines` lines.
     pub(crate) fn summary(&self, lines: u64) -> Summary
         ensures { result ≡ summary_at lines (progress self.now) }
     {

@@ -12,7 +12,7 @@ use nt_core::{Core, Grant};
 use nt_marks::Marks;
 use nt_status::{MAX_MOMENT, Moment};
 
-/// Nothing stands at this place any more. If nothing did, one look tells.
+/// Empties this place. Where it is empty already, one look tells.
 #[tactic(auto, using(std::proofs::lemmas::List::set_past))]
 fn clear(places: &mut Alarms, place: usize)
     ensures { places.new ≡ slice_set places.old place None }
@@ -44,7 +44,7 @@ fn unmark(watchers: &mut Marks, place: usize)
     }
 }
 
-/// None of these threads sleeps any more.
+/// None of these threads sleeps any longer.
 #[tactic(auto, using(crate::proofs::Waking::woken_first, crate::proofs::Waking::woken_next, crate::proofs::Waking::woken_all))]
 fn clear_all(alarms: &mut Alarms, grants: &[Grant])
     ensures { alarms.new ≡ without_woken None grants.now alarms.old }
@@ -54,7 +54,7 @@ fn clear_all(alarms: &mut Alarms, grants: &[Grant])
     }
 }
 
-/// None of these threads watches any more. Most calls find that nobody does.
+/// None of these threads watches any longer. Most calls find that nobody does.
 #[tactic(auto, using(crate::proofs::Waking::woken_first, crate::proofs::Waking::woken_next, crate::proofs::Waking::woken_all, crate::proofs::Waking::none_woken))]
 fn unmark_all(watchers: &mut Marks, grants: &[Grant])
     ensures { watchers.new ≡ without_woken false grants.now watchers.old }

@@ -7,7 +7,7 @@
 //! timers.
 //!
 //! ```text
-//!     call, tick ──▶ grants      each wait that ended: its thread no longer sleeps, and is told its status
+//!     call, tick ──▶ grants      each wait that ended: its thread no longer sleeps, and gets its status
 //!                ├─▶ a moment    a wait that began: its thread sleeps to its deadline
 //!                └─▶ called      nobody sleeps short enough for the watchers: one is called, to look at the time
 //!     watch      ──▶ a moment    to which a watcher sleeps: no longer than to what is due next, if nobody else does

@@ -202,7 +202,7 @@ impl Sleepers {
         result
     }
 
-    /// A thread begins in the place of one that has ended and whose object is gone, as `Lasting::begin` has it. Nobody is told anything.
+    /// A thread begins in the place of one that has ended and whose object is gone, as `Lasting::begin` has it. `told` names nobody then.
     pub fn begin(&mut self) -> Option<Begun>
         ensures begun { MayBegin (state self.old.core) self.old.spare result self.new.core.grants (state self.new.core) }
         ensures lawful { IsLawful self.new.core }
@@ -212,7 +212,7 @@ impl Sleepers {
         self.life.begin()
     }
 
-    /// Sets aside the object of a thread that has ended and that handles still name, as `Lasting::set_aside` has it. Nobody is told anything.
+    /// Sets aside the object of a thread that has ended and that handles still name, as `Lasting::set_aside` has it. `told` names nobody then.
     pub fn set_aside(&mut self, thread: u32) -> Result<ObjectNumber, Refusal>
         ensures aside { MaySetAside (state self.old.core) self.old.spare thread result
             self.new.core.grants (state self.new.core) }
@@ -223,7 +223,7 @@ impl Sleepers {
         self.life.set_aside(thread)
     }
 
-    /// Numbers are given again from now on, as `Lasting::give_again` has it. What the last call told stays told.
+    /// Numbers are given again from now on, as `Lasting::give_again` has it. What threads learn of the last call stays as it is.
     pub fn give_again(&mut self, alloc: Global) -> Result<(), Refusal>
         ensures gives { GivesFromNow (state self.old.core) self.old.spare result self.new.spare }
         ensures same { self.new ≡ record self.old { spare = self.new.spare } }
@@ -232,28 +232,29 @@ impl Sleepers {
     }
 
     /// A timer may end the pending wait of this thread: it watches from now on. Returns the moment to which it sleeps by itself, in units
-    /// of 100 ns; none if it sleeps until it is told. If its wait does not pend, nothing is done.
+    /// of 100 ns; none if it sleeps until its wait ends or it is called. If its wait does not pend, nothing is done.
     pub fn watch(&mut self, who: u32) -> Option<u64>
         ensures { Watches self.old who result self.new }
     {
         watch(&self.life, &mut self.alarms, &mut self.watchers, who)
     }
 
-    /// The moment to which this thread sleeps by itself, in units of 100 ns; none if it sleeps until it is told, or does not sleep.
+    /// The moment to which this thread sleeps by itself, in units of 100 ns. None if it sleeps until its wait ends or it is called, or
+    /// does not sleep.
     pub fn moment(&self, who: u32) -> Option<u64>
         ensures { result ≡ alarm_at self.now.alarms who }
     {
         self.alarms.get(who as usize)
     }
 
-    /// This thread sleeps and watches no more, though its wait may pend: it is gone, or looks for itself. A watcher may be called in its place.
+    /// This thread no longer sleeps or watches, though its wait may pend: it is gone, or looks for itself. A watcher may be called in its place.
     pub fn stop(&mut self, who: u32)
         ensures { StopsSleeping self.old who self.new }
     {
         self.called = stop(&self.life, &mut self.alarms, &mut self.watchers, who);
     }
 
-    /// Whom the last call or tick told, by index: each wait that ended, and then who is called, if anybody is.
+    /// What threads learn of the last call or tick, by index: each wait that ended, and then who is called, if anybody is.
     pub fn told(&self, index: usize) -> Option<Told>
         ensures { result ≡ slice_get (told_of self.now.core.grants self.now.called) index }
     {

@@ -1,7 +1,7 @@
-//! What a thread is told while it sleeps.
+//! What a thread learns while it sleeps.
 use nt_core::Grant;
 
-/// What a thread is told.
+/// What a thread learns.
 #[derive(Clone, Copy, PartialEq, Eq, Debug)]
 pub enum Told {
     /// Its wait ended, with this status.

@@ -21,7 +21,7 @@ pub struct Counts {
     pub abandoned: u64,
 }
 
-/// Counts what stands in the entries, of so many threads and this mutex.
+/// Counts what stands in the entries, of `threads` threads and this mutex.
 #[tactic(auto, using(crate::proofs::Counting::counted_none))]
 pub fn counts_of(
     alloc: Global,

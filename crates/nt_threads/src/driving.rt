@@ -43,7 +43,7 @@ impl<D: Door> Promise<Worked<D>> for Works<D> {
 /// The first creates a mutex, a semaphore with room for each release and a manual-reset event, starts the others, sets the
 /// event, and waits for the end of all. Each of the others waits for the event; `rounds` times it waits for the mutex,
 /// releases the semaphore by 1 and releases the mutex; then it ends. After a refusal a thread ends at once, and
-/// where a thread cannot be started, no more are. `back` takes the doors.
+/// where a thread cannot be started, no further one is. `back` takes the doors.
 pub fn drive<D: Door + Send, R: Threads + Wait + Sync>(
     rt: &R,
     alloc: Global,
@@ -121,8 +121,8 @@ fn start_all<D: Door + Send, R: Threads + Wait + Sync>(
     )
 }
 
-/// Starts a thread for the last of the others, and for those before it, and leads them. Where one cannot be started, no more
-/// are.
+/// Starts a thread for the last of the others, and for those before it, and leads them. Where one cannot be started, no
+/// further one is.
 fn start_each<'s, 'e: 's, D: Door + Send + 'e, R: Threads + Wait + Sync>(
     scope: &'s Scope<'s, &'e ()>,
     rt: &'e R,

@@ -160,7 +160,7 @@ fn make_round<D: Door, R: Wait>(
     Ok(())
 }
 
-/// Makes so many rounds.
+/// Makes `rounds` rounds.
 fn make_rounds<D: Door, R: Wait>(
     rt: &R,
     alloc: Global,

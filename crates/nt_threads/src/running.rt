@@ -52,7 +52,7 @@ struct Room<'f, N: Named> {
 }
 
 impl<'f, N: Named> Room<'f, N> {
-    /// Room for so many threads.
+    /// Room for `threads` threads.
     fn new(alloc: Global, threads: usize) -> Result<Room<'f, N>, AllocError>
         ensures { IfOk result (λ r. HaveFreeRoom threads r.doors r.back r.holds) }
     {

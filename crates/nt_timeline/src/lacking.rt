@@ -8,7 +8,7 @@ use nt_lines::caller_of;
 use nt_script::Session;
 use std::alloc::{AllocError, Global};
 
-/// The most names that are told.
+/// The most names that are listed.
 const MOST_TOLD: usize = 20;
 
 /// Puts an option of the command line with its value, and that there is no such thing.
@@ -44,7 +44,7 @@ fn range_of(alloc: Global, first: u64, last: u64) -> Result<Vec<u8>, AllocError>
     Ok(range)
 }
 
-/// Puts that there are no such lines among so many, if that is so.
+/// Puts that the script has no such lines among its `count`, if that is so.
 fn put_lines(
     alloc: Global,
     out: &mut Vec<u8>,
@@ -63,7 +63,7 @@ fn put_lines(
     out.extend_from_slice(b"\n")
 }
 
-/// Puts that there is no such thread among so many, if that is so.
+/// Puts that there is no such thread among `threads`, if that is so.
 fn put_thread(
     alloc: Global,
     out: &mut Vec<u8>,
@@ -134,7 +134,7 @@ impl Film {
         put_names(out, session)
     }
 
-    /// Lines that tell what there is in place of what the part asks for, after so many lines; empty where the run has all that it asks for.
+    /// Lines that tell what a run of `count` lines has in place of what the part asks for; empty where it has all of that.
     pub fn lacking(
         &self,
         alloc: Global,

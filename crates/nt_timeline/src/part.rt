@@ -2,7 +2,7 @@
 
 use crate::steps::{Ended, Step};
 
-/// Which part of a run is shown; all of it, where nothing is told.
+/// Which part of a run is shown; all of it, where nothing is asked for.
 #[derive(Clone, Copy, Debug)]
 pub struct Part<'a> {
     /// From which line to which.

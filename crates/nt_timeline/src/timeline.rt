@@ -26,7 +26,7 @@ pub enum Outcome {
     Lacking(Vec<u8>),
 }
 
-/// The timeline of what is kept of a session, after so many lines.
+/// The timeline of what is kept of a session, after `count` lines.
 fn text_of(
     alloc: Global,
     file: &[u8],
@@ -48,7 +48,7 @@ fn text_of(
 }
 
 impl Film {
-    /// The timeline of what was run, after so many lines.
+    /// The timeline of what was run, after `count` lines.
     fn report(
         &self,
         alloc: Global,
@@ -64,7 +64,7 @@ impl Film {
         }
     }
 
-    /// What is told of the run by this report, and of its calls that were refused.
+    /// This report of the run, with what is reported of its calls that were refused.
     pub fn found(&self, alloc: Global, report: Report) -> Result<Found, AllocError>
         ensures { IfOk result (λ found. found.report ≡ report) }
     {
@@ -77,7 +77,7 @@ impl Film {
         })
     }
 
-    /// What the run comes to, after so many lines.
+    /// What the run comes to, after `count` lines.
     fn outcome(
         &self,
         alloc: Global,
@@ -120,7 +120,7 @@ impl Film {
 /// Runs a script, and answers the timeline of a part of it, or that there is no such part. The script ends at its first zero byte. `file` is what the
 /// timeline calls it.
 ///
-/// A line with a fault, or no `threads` line, is told as `ntrun script` tells it; so is want of memory.
+/// A line with a fault, or no `threads` line, is reported as `ntrun script` reports it; so is want of memory.
 pub fn timeline_on(
     alloc: Global,
     file: &[u8],

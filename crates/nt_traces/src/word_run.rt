@@ -57,7 +57,7 @@ fn told(seat: WordSeat) -> WordSeat
     WordSeat { place, ..seat }
 }
 
-/// The thread, which has exchanged its word from awake to asleep, or was told.
+/// The thread, which has exchanged its word from awake to asleep, or has found there that it was granted or called.
 fn marked(seat: WordSeat) -> WordSeat
     ensures seat { seat_of result ≡ uncounted_seat (Protocol.marked (seat_of seat) (word_of seat.word)) }
     ensures owes { result.owes ≡ seat.owes }
@@ -244,7 +244,7 @@ impl WordRun {
         );
     }
 
-    /// Thread t has told u something, and owes it a wake-up where it sleeps or is about to.
+    /// Thread t has granted or called u, and owes it a wake-up where u sleeps or is about to.
     fn told_by(&mut self, t: usize, u: usize)
         requires t { t < length self.old.seats.items }
         requires u { u < length self.old.seats.items }

@@ -34,7 +34,7 @@ fn asked<R: AllocGlobal + Env>(rt: &R) -> Result<(Vec<String>, Option<Told>), Al
     Ok((words(rt)?, told_by(rt)?))
 }
 
-/// Says all about a fault that was told before of the script that the words ask for, and answers its exit status.
+/// Says all about a fault that was reported before of the script that the words ask for, and answers its exit status.
 fn explain_fault<F: AllocGlobal + Files, E: Sink>(
     files: &F,
     words: &[String],

@@ -296,7 +296,7 @@ fn renewal_of(told: Told) -> PackedEntry {
     }
 }
 
-/// The entry that is told, by threads 0 and 1.
+/// The entry that says this, of threads 0 and 1.
 fn entry_of(told: Told) -> PackedEntry {
     let (first, second) = (ThreadId::new(0), ThreadId::new(1));
     match told {

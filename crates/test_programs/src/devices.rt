@@ -29,7 +29,7 @@ impl<'a> Given<'a> {
         }
     }
 
-    /// Gives so many bytes, and then fails.
+    /// Gives the first `count` bytes, and then fails.
     pub fn failing_after(bytes: &'a [u8], count: usize) -> Given<'a> {
         Given {
             left: &bytes[..count.min(bytes.len())],

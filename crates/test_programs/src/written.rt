@@ -30,7 +30,7 @@ enum Said {
     Next,
     Any(u32, bool, &'static [u32]),
     All(u32, bool, &'static [u32]),
-    /// A wait with timeout 0 for any of so many handles, all of them 65535.
+    /// A wait with timeout 0 for any of this number of handles, all of them 65535.
     Many(u32),
     Sleep(u32, bool),
     Swap(u32, u32, u32, bool),
@@ -167,7 +167,7 @@ fn objects(alloc: Global, numbers: &[u32], all: bool, mode: WaitMode) -> Result<
     Ok(Call::Wait(WaitCall::Objects { handles, all, mode }))
 }
 
-/// A wait for any of so many handles.
+/// A wait for any of `count` handles.
 fn many(alloc: Global, count: u32) -> Result<Call, AllocError> {
     let mut handles = Handles::new(alloc);
     for _ in 0..count {

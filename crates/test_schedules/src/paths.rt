@@ -1,5 +1,5 @@
-//! How many schedules two threads have with so many steps each, of which any order can be: as many as there are ways to choose the places of the
-//! first one's steps. It costs 1 to leave a thread that has steps left.
+//! How many schedules two threads have whose steps can come in any order: as many as there are ways to choose the places of the first one's
+//! steps. It costs 1 to leave a thread that has steps left.
 
 use crate::expect::expect_equal;
 use crate::refused::tell_refused;

@@ -4,7 +4,7 @@ use crate::expect::expect_equal;
 use nt_devices::{Counted, Sink, Source, WriteFailed, write_whole};
 use std::io::{self, ErrorKind, Read, Write};
 
-/// A reader of zeros and a writer that keeps nothing, of three bytes at once. It fails as often as it is told to, and then no more.
+/// A reader of zeros and a writer that keeps nothing, of three bytes at once. It fails on its first `times` calls alone.
 #[derive(Drop)]
 struct Failing {
     times: u64,
@@ -13,7 +13,7 @@ struct Failing {
 }
 
 impl Failing {
-    /// Where it does not fail, how many of so many bytes go.
+    /// How many of these bytes it takes or gives, where it does not fail.
     fn call(&mut self, bytes: usize) -> io::Result<usize> {
         self.calls = self.calls.saturating_add(1);
         if self.times > 0 {

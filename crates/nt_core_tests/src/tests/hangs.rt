@@ -207,7 +207,7 @@ fn play(alloc: Global, core: &mut Core, steps: &[(u32, Does)]) -> Result<(), Ref
     Ok(())
 }
 
-/// Whether of this dispatcher just this is told.
+/// Whether the verdict on this dispatcher is exactly this.
 fn is_verdict(
     alloc: Global,
     core: &Core,
@@ -224,7 +224,7 @@ fn is_verdict(
     Ok(verdict.stuck == stuck && verdict.knot.as_slice() == knot && verdict.next.is_some() == due)
 }
 
-/// Whether it is told once the calls were made.
+/// Whether the verdict is exactly this once the calls were made.
 fn is_told_after(
     alloc: Global,
     core: &mut Core,
@@ -237,7 +237,7 @@ fn is_told_after(
     is_verdict(alloc, core, stuck, knot, due)
 }
 
-/// Whether of this row just this is told, of a dispatcher for three threads.
+/// Whether the verdict is exactly this after the calls of a row, in a dispatcher for three threads.
 fn is_told(
     alloc: Global,
     steps: &[(u32, Does)],

@@ -20,7 +20,7 @@ enum Does {
     Asks(u32, Ask, &'static [u32], Answer),
     /// It asks for this of these handles, and is answered each handle from the first number to the last.
     Fills(u32, Ask, &'static [u32], u32, u32),
-    /// It creates and closes so many events, each with this handle.
+    /// It creates and closes this number of events, each with the handle of the last number.
     Rounds(u32, u32, u32),
     /// A thread begins in this place with this handle, or none does.
     Begins(Option<(u32, u32)>),
@@ -161,7 +161,7 @@ fn is_filled(
     Ok(true)
 }
 
-/// Whether each of so many events has this handle, and is closed.
+/// Creates and closes `count` events, and answers whether each had this handle and was closed.
 fn goes_round(
     alloc: Global,
     life: &mut Lasting,

@@ -1,4 +1,4 @@
-//! Second tries where a growth is refused, each told.
+//! Second tries where a growth is refused. Each is reported.
 use crate::expect::{expect, expect_equal};
 use crate::tests::calls::{answer_of, call_of};
 use crate::tests::script::{Answer, Ask};
@@ -83,7 +83,7 @@ pub fn copy_at_last(rt: &impl Host, core: &Core) -> Result<Core, Refusal> {
     })
 }
 
-/// Whether the last call ended no wait, began none where so many pended, and tested none.
+/// Whether the last call ended no wait, began none where `pending` waits pended, and tested none.
 fn is_unmoved(core: &Core, pending: usize) -> bool {
     core.grants().is_empty() && core.pending() == pending && core.tested() == 0
 }

@@ -246,7 +246,7 @@ fn tells_just_this(rt: &impl Host, rows: &[Row]) {
     }
 }
 
-/// Whether a search of the crossed locks from this dispatcher tells just that it met so many after each look.
+/// Whether a search of the crossed locks from this dispatcher reports, after each look, exactly the next number in `met`.
 fn learns(
     alloc: Global,
     core: &mut Core,

@@ -1,4 +1,4 @@
-//! The walk over the steps of a scenario. A step that fails is told with what the scenario shows, and with its number, from 1.
+//! The walk over the steps of a scenario. A step that fails is reported with what the scenario shows, and with its number, from 1.
 use crate::tests::calls::{answer_of, are_ended};
 use crate::tests::memory::{
     Host, answer_at_once, answer_by_slice, answer_to, copy_at_last, is_refusing, let_go, open,
@@ -165,7 +165,7 @@ pub fn play_all(rt: &impl Host, scenarios: &[Scenario]) -> Result<(), Fail> {
     Ok(())
 }
 
-/// Takes each of these steps in the one dispatcher and then in the other, after so many that were taken already.
+/// Takes each of these steps in the one dispatcher and then in the other. They come after the first `taken` steps of the scenario.
 fn take_steps_in_both(
     rt: &impl Host,
     core: &mut Core,
@@ -186,7 +186,7 @@ fn take_steps_in_both(
     }
 }
 
-/// Makes a copy, and takes the steps after so many in both, which go on alike.
+/// Makes a copy, and takes the steps after the first `taken` in both dispatchers, which go on alike.
 fn go_on_in_both(
     rt: &impl Host,
     core: &mut Core,
@@ -200,7 +200,7 @@ fn go_on_in_both(
     Ok(())
 }
 
-/// Takes the steps of the scenario from a new dispatcher on, those after so many in a copy too.
+/// Takes the steps of the scenario from a new dispatcher on, those after the first `taken` in a copy too.
 fn play_in_both_after(rt: &impl Host, scenario: &Scenario, taken: usize) -> Result<(), Refusal> {
     let mut core = open(rt, scenario.threads)?;
     let steps = scenario.steps.get(..taken).unwrap_or(&[]);

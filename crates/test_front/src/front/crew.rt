@@ -246,7 +246,7 @@ struct Room<N: Named> {
 }
 
 impl<N: Named> Room<N> {
-    /// Room for so many threads.
+    /// Room for `threads` threads.
     fn new(alloc: Global, threads: usize) -> Result<Room<N>, AllocError>
         ensures carriers { IfOk result (λ r. (r.carriers.items ≡ []) × (threads ≤ vec_capacity r.carriers)) }
         ensures back { IfOk result (λ r. (vec_len r.back ≡ 0) × (threads ≤ vec_capacity r.back)) }

@@ -13,29 +13,29 @@ use std::sync::atomic::Ordering;
 use std::thread;
 use std::time::{Clock, Duration};
 
-/// A thread's job. Objects are told by the numbers of their handles.
+/// A thread's job. Objects are given by the numbers of their handles.
 #[derive(Clone, Copy)]
 pub enum Job {
-    /// Makes so many calls of all sorts, and then ends its thread.
+    /// Makes `calls` calls of all sorts, and then ends its thread.
     Roam {
         calls: u32,
         manner: Manner,
     },
     /// Lets the moment pass, 1 ms at a time, until the others are done.
     Tick,
-    /// So often: sets one event, and waits for the other.
+    /// `times` times: sets one event, and waits for the other.
     Serve {
         sets: u32,
         waits: u32,
         times: u32,
     },
-    /// So often: waits for one event, and sets the other.
+    /// `times` times: waits for one event, and sets the other.
     Answer {
         waits: u32,
         sets: u32,
         times: u32,
     },
-    /// So often: waits for the mutex, and releases it.
+    /// `times` times: waits for the mutex, and releases it.
     Lock {
         mutex: u32,
         times: u32,
@@ -45,14 +45,14 @@ pub enum Job {
         event: u32,
         manner: Manner,
     },
-    /// Sets the event once a thread waits for it, after so many turns given up at the most.
+    /// Sets the event once a thread waits for it. Until then it gives up at most `turns` turns.
     SetWhenAwaited {
         event: u32,
         turns: u32,
     },
     /// Leads the workers of the plan.
     Lead,
-    /// Works by the plan, so many rounds.
+    /// Works by the plan, for `rounds` rounds.
     Toil {
         rounds: u32,
     },
@@ -69,7 +69,7 @@ pub enum Job {
 #[derive(Clone, Copy)]
 pub enum Manner {
     Asleep,
-    /// By so many polls at the most.
+    /// By this number of polls at the most.
     Polling(u32),
 }
 
@@ -235,7 +235,7 @@ pub fn wait_for<N: Named>(
     }
 }
 
-/// Lets the moment pass until nobody roams any more. It takes parts too: where the others get no processor for a while, its ticks
+/// Lets the moment pass until nobody roams. It takes parts too: where the others get no processor for a while, its ticks
 /// alone would fill the journal.
 fn tick<N: Named, R: Wait + Clock>(
     rt: &R,

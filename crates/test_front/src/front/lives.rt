@@ -38,7 +38,7 @@ struct Seen {
     difference: u64,
 }
 
-/// What a thread that began is told.
+/// What a thread that began learns.
 fn said_begun(receipt: &Receipt) -> Said {
     match &receipt.result {
         Ok(Reply::Handle(handle)) => Said {
@@ -306,7 +306,7 @@ fn is_told(number: u64, entry: &PackedEntry, expected: Option<&Renewed>) -> Opti
     )
 }
 
-/// How many of the expected renewals stand in the entries up to these, where so many stand before; none if another one does.
+/// How many of the expected renewals stand in the entries up to these, where `before` stand earlier; none if another one does.
 fn read(expected: &[Renewed], before: usize, first: u64, entries: &[PackedEntry]) -> Option<usize> {
     let mut count = before;
     for i in 0..entries.len() {

@@ -16,7 +16,7 @@ pub struct Parts {
 }
 
 impl Parts {
-    /// No part yet. One is to be taken for each so many entries.
+    /// No part yet. One is to be taken whenever there are `every` new entries.
     pub fn new(alloc: Global, every: u64) -> Parts {
         Parts {
             every,
@@ -25,7 +25,7 @@ impl Parts {
         }
     }
 
-    /// Takes a part where the entry that this thread was last told of makes one due.
+    /// Takes a part where the last entry that this thread learned of makes one due.
     pub fn take_when_due<N: Named>(
         &self,
         rt: &impl Wait,

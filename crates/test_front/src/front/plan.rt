@@ -50,7 +50,7 @@ pub fn lead<N: Named>(
     end(rt, front, held, told)
 }
 
-/// Waits for the start, then makes so many rounds: takes the mutex, releases the semaphore by one, releases the mutex.
+/// Waits for the start, then makes `rounds` rounds: takes the mutex, releases the semaphore by one, releases the mutex.
 pub fn toil<N: Named>(
     rt: &impl Wait,
     front: &Front<N>,

@@ -7,7 +7,7 @@ use nt_front::{Exited, Front, Held, Named, Pass};
 use std::sync::Wait;
 use std::sync::atomic::Ordering;
 
-/// Makes so many calls of all sorts, and then ends the thread.
+/// Makes `calls` calls of all sorts, and then ends the thread.
 pub fn roam<N: Named>(
     rt: &impl Wait,
     front: &Front<N>,

@@ -1,4 +1,4 @@
-//! What became of a crew, by what its threads were told and by what the journal has of them.
+//! What became of a crew, by what its threads learned and by what the journal has of them.
 use crate::front::crew::Crew;
 use crate::front::replay::first_difference;
 use crate::front::told::{Entries, Told};
@@ -12,10 +12,10 @@ pub struct Seen {
     pub parts: usize,
     /// How many entries these and the history have.
     pub entries: usize,
-    /// The calls and ticks that were written, and the grants that were given, as the threads were told of them.
+    /// The calls and ticks that were written, and the grants that were given, as the threads learned of them.
     pub calls: Entries,
     pub grants: Entries,
-    /// Threads that were told of other entries than the journal has of them.
+    /// Threads that learned of other entries than the journal has of them.
     pub differ: u64,
     /// Threads whose wait still pends at the end.
     pub sleeping: u64,
@@ -43,7 +43,7 @@ fn entries_of(parts: &[Part], history: &History) -> usize {
     entries
 }
 
-/// Looks at what the threads were told, beside what the journal has of them, and makes its calls again.
+/// Compares what the threads learned with what the journal has of them, and makes its calls again.
 pub fn look_at(
     crew: &Crew,
     parts: &[Part],

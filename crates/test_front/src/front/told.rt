@@ -1,4 +1,4 @@
-//! What a thread was told, and the same read off the journal.
+//! What a thread learned, and the same read off the journal.
 use nt_core::Reply;
 use nt_front::{Blank, History, PackedEntry, Part, ReadEntry, Receipt};
 use nt_life::Renewal;
@@ -30,7 +30,7 @@ impl Span {
     }
 }
 
-/// How many entries of one thread, and the sum of their numbers: two threads that were told of different entries differ in one.
+/// How many entries of one thread, and the sum of their numbers: two threads that learned of different entries differ in one.
 #[derive(Clone, Copy, Default, PartialEq, Eq, Debug)]
 pub struct Entries {
     pub count: u64,
@@ -58,7 +58,7 @@ pub struct Told {
     pub grants: Entries,
     /// The sum of the codes of the statuses that it was granted.
     pub codes: u64,
-    /// The number of the entry that it was last told of.
+    /// The number of the last entry that it learned of.
     pub last: u64,
     /// Calls that found no room in the journal, and growths of the thread's own that were refused: none of a test that is well.
     pub lost: u64,
@@ -95,7 +95,7 @@ impl Told {
     }
 
     fn read(&mut self, thread: ThreadId, entry: &PackedEntry, number: u64) {
-        // (The checker has to be told of the type that an entry may borrow.)
+        // (The checker has to see the type that an entry may borrow.)
         let _inside: Option<Renewal> = None;
         match &entry.read() {
             ReadEntry::Called { who, .. } if *who == thread => self.calls.add(number),

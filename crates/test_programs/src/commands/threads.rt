@@ -1,4 +1,4 @@
-//! What is told of threads that run.
+//! What is reported of threads that run.
 
 use crate::commands::Ran;
 use crate::devices::{Room, Taken};

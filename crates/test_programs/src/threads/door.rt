@@ -21,7 +21,7 @@ pub struct MemoryDoor<A: Answering> {
 }
 
 impl<A: Answering> MemoryDoor<A> {
-    /// A door of this thread, with room for so many calls.
+    /// A door of this thread, with room for `calls` calls.
     pub fn new(
         alloc: Global,
         thread: u16,

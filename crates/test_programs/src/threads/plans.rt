@@ -128,10 +128,10 @@ fn one_worker_makes_one_round(rt: HostRuntime) {
     check(&rt, 1, 1, whole_plan(3, 1, 2));
 }
 
-/// A wait for so many objects takes memory of its own.
+/// A wait for ten objects takes memory of its own.
 #[test]
 fn ten_workers_make_two_rounds(rt: HostRuntime) {
-    // how many allocations so many threads make depends on their schedule, since tables grow with who waits first
+    // how many allocations ten threads make depends on their schedule, since tables grow with who waits first
     if is_refusing(&rt) {
         return;
     }
