@@ -304,7 +304,7 @@ static void name_wake(enum protocol protocol, const volatile void *word, const u
         put_step_of(me, protocol, (enum step)names[1], 0);
 }
 
-/* A wake-up of this thread, which slept or not. A handler of signals may have granted or called it too, and woken it: then the call that the handler
+/* A wake-up of this thread, which slept or not. A handler of signals may have granted or called it too, and woken it. Then the call that the handler
  * had interrupted owes it nothing any longer, and a sleep that it ends has ended for no reason. */
 static void tell_wake_of(uint32_t thread, bool slept)
 {

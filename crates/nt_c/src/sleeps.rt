@@ -48,7 +48,7 @@ fn sleep(sleepers: &mut Sleepers, who: u32, watches: bool) -> Option<u64>
 /// The wait of this thread pends, and it sleeps. `out` gets the moment to which it sleeps by itself, in units of 100 ns. Where a timer may
 /// end its wait, it `watches`, and sleeps no longer than to the next moment at which anything is due, if nobody else does.
 ///
-/// Refused with 6 where the handle has no dispatcher, and with 536870915 where no thread has this number; 259 is answered where the thread
+/// Refused with 6 where the handle has no dispatcher, and with 536870915 where no thread has this number. Answers 259 where the thread
 /// sleeps until its wait ends or it is called.
 #[unsafe(no_mangle)]
 pub extern "C" fn nt_pend(nt: &mut Nt, who: u32, watches: bool, out: &mut u64) -> u32

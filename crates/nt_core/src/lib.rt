@@ -4,13 +4,13 @@
 //! Threads share objects, and wait until objects let them go on. A `Core` is given one call after another, each with the thread that makes
 //! it, and reports which waits that call ended. It starts no thread and takes no lock: whoever drives threads does that, as `nt_front` does.
 //!
-//! **The life of a wait.** It begins (`begin_wait`): where its objects let it, it takes them and is over at once; else it pends, last in the
-//! queue of each object that it names. A later call changes an object, and the waits in that object's queue are visited in the order in
-//! which they began (`serve_one`, `visit`): each that fits takes its objects, leaves its queues, and is listed in `grants()`. Or an APC
-//! comes for a wait that is alertable (`rouse`), or its moment passes (`time_out_all`).
+//! **The life of a wait.** It begins (`begin_wait`): where its objects let it, it takes them and is over at once. Else it pends, last in the
+//! queue of each object that it names. When a later call changes an object, the waits in its queue are visited in the order in which they
+//! began (`serve_one`, `visit`). Each that fits takes its objects, leaves its queues, and is listed in `grants()`. Or an APC comes for a
+//! wait that is alertable (`rouse`), or its moment passes (`time_out_all`).
 //!
 //! **The way of one call.** `Core::call` judges the caller, and one match hands the call to the function for it. That function finds its
-//! object once, answers the first cause that refuses the call, and else makes the change where the object stands; then the waits that the
+//! object once, answers the first cause that refuses the call, and else makes the change where the object stands. Then the waits that the
 //! change may end are served. What an exit or a tick changes is marked, and served mark by mark (`serve_marked`): between two calls no mark
 //! is left. Last of all, each object that nothing keeps any longer ends. A refused call changes nothing.
 //!

@@ -3,7 +3,7 @@
 //!
 //! Whoever takes the lock finds a lawful dispatcher, and beside it the journal: each call and tick with its answer, and each wait
 //! that ended, in their order. With the parts of it that were handed out before, the journal is a run of the machine from its opening
-//! to the state that lies beside it, so all that is proved of runs is true of what the threads learned.
+//! to the state that lies beside it. So all that is proved of runs is true of what the threads learned.
 //!
 //! ```text
 //!    thread 0: a pass      thread 1: a sleeper      thread 2: a pass

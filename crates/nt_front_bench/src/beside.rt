@@ -64,7 +64,7 @@ fn rest<N: Named, R: Wait>(
     }
 }
 
-/// Makes the rounds of both threads. Only the calls and the time of the pairs are added to `told`.
+/// Makes the rounds of both threads. The calls counted and the time taken are those of the pairs alone.
 pub fn beside<N: Named + Send + Sync, R: Threads + Wait + Clock + Sync>(
     rt: &R,
     alloc: Global,

@@ -13,7 +13,7 @@ pub fn runs_one_way()
     ensures { RunsOneWay }
 {}
 
-/// A semaphore hands out exactly what it was given: over every run its count and the number of times that it was taken make
+/// A semaphore hands out exactly what it was given. Over every run its count and the number of times that it was taken make
 /// up what it was given, and the count stays between zero and the maximum.
 pub fn semaphores_give_what_they_have()
     ensures { SemaphoresGiveWhatTheyHave }

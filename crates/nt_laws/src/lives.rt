@@ -43,7 +43,7 @@ pub fn one_owner_since_given()
     ensures { OneOwnerSinceGiven }
 {}
 
-/// One set of an auto-reset event ends at most one wait: in any part of a life, from where the event's number was given last in it, it
+/// One set of an auto-reset event ends at most one wait. In any part of a life, from where the event's number was given last in it, it
 /// is taken at most as often as it is set.
 pub fn one_set_one_wait_since_given()
     ensures { OneSetOneWaitSinceGiven }

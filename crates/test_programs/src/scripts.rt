@@ -35,8 +35,8 @@ fn line_at(script: &[u8], place: usize) -> u64 {
     line
 }
 
-/// Whether a place is looked at: each. Where growths are refused only each 50th, since each growth is then one more run, and
-/// from 49 on: in lines that ask for no memory, since a refusal shows nowhere where the writer takes nothing further.
+/// Whether a place is looked at: each is. Where growths are refused only each 50th is, since each growth is then one more run. They
+/// begin at 49, in lines that ask for no memory, since a refusal shows nowhere where the writer takes nothing further.
 fn is_looked_at(rt: &impl Host, place: usize) -> bool {
     !is_refusing(rt) || place % 50 == 49
 }

@@ -1,4 +1,4 @@
-//! Crews at work: nobody is left asleep, each thread learns exactly what the history has of it, and a fresh dispatcher answers
+//! Crews at work: nobody is left asleep, and each thread learns exactly what the history has of it. A fresh dispatcher answers
 //! each call of the history as it was answered.
 use crate::expect::{expect, expect_equal};
 use crate::front::crew::{Crew, man};
