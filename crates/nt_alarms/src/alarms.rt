@@ -102,7 +102,7 @@ impl Alarms {
         Ok(alarms)
     }
 
-    /// So many places in alarms, each with no alarm, and in each of two kinds of marks, each with no mark.
+    /// Alarms for `count` places, none of them set, and two kinds of marks for the same places, none of them marked.
     pub fn with_marks(alloc: Global, count: usize) -> Result<(Self, Marks, Marks), AllocError>
         ensures alarms { IfOk result (λ all. all.0 ≡ replicate count None) }
         ensures marks { IfOk result (λ all. all.1 ≡ replicate count false) }

@@ -6,7 +6,7 @@ use nt_status::{Handle, Handles, INFINITE};
 use std::alloc::{AllocError, Global};
 use std::ops::Range;
 
-/// So many threads, the calls that make the objects, and a round, which leaves everything as it was before it.
+/// A number of threads, the calls that make the objects, and a round, which leaves everything as it was before it.
 #[derive(Drop)]
 pub struct Shape {
     pub name: &'static str,
@@ -25,7 +25,7 @@ impl Shape {
         }
     }
 
-    /// So many auto-reset events, made by thread 0. Their handles follow those of the threads.
+    /// Adds `events` auto-reset events, made by thread 0. Their handles follow those of the threads.
     fn with_events(mut self, events: u32) -> Result<Self, AllocError> {
         for _ in 0..events {
             self.prepare.push(act(0, Act::CreateEvent(0)))?;

@@ -42,8 +42,8 @@ pub extern "C" fn nt_open(alloc: Global, nt: &mut Nt, threads: u32) -> u32
     }
 }
 
-/// The same, but a dispatcher that gives numbers again: of handles that were closed, of objects that are gone, and of threads that have ended.
-/// It has 1 to 4,096 threads.
+/// Opens a dispatcher as `nt_open` does, which gives numbers again: of closed handles, of objects that are gone, and of ended threads. It
+/// has 1 to 4,096 threads.
 #[unsafe(no_mangle)]
 pub extern "C" fn nt_open_lasting(alloc: Global, nt: &mut Nt, threads: u32) -> u32
     requires fit { IsFit nt.old }

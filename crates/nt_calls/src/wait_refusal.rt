@@ -23,7 +23,7 @@ fn is_held_to_limit(object: &Object, thread: ThreadId) -> bool
     object.is_owned_by(thread) && !object.has_room()
 }
 
-/// The same of the object of this number.
+/// Whether the object of this number is a mutex which the thread holds at the greatest depth.
 pub fn is_at_limit(objects: &[Object], thread: ThreadId, number: ObjectNumber) -> bool
     ensures { result ≡ is_at_limit objects.now thread number }
 {

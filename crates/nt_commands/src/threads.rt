@@ -13,9 +13,9 @@ use std::thread::Threads;
 
 /// Runs `workers` threads beside the first one, each for `rounds` rounds, and writes six lines about the run.
 ///
-/// Answers the exit status: 0 where all was done and handed on; 1 where memory was refused or a write failed; 2 unless there are 1 to
-/// 64 workers and 1 to 1000 rounds. Where memory was refused nothing is written. Why the status is not 0 is said on `errors`; a
-/// failure to write that is ignored.
+/// Answers the exit status: 0 where all was done and handed on; 1 where memory was refused or a write failed. It is 2 unless there
+/// are 1 to 64 workers and 1 to 1000 rounds. Where memory was refused nothing is written. Why the status is not 0 is said on
+/// `errors`; a failure to write that is ignored.
 pub fn threads_over<R: Threads + Wait + Sync, W: Sink, E: Sink>(
     rt: &R,
     alloc: Global,

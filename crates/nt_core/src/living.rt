@@ -15,7 +15,7 @@ use nt_objects::Object;
 use nt_status::{Handle, ObjectNumber};
 use nt_tables::HandleTable;
 
-/// Marks an object that no handle names. It stands apart: mostly a handle still names what a wait named.
+/// Marks an object that no handle names. A function of its own, since mostly a handle still names what a wait named.
 #[inline(never)]
 fn mark_left(leaving: &mut Marks, object: ObjectNumber)
     requires { object < length leaving.old }

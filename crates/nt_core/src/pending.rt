@@ -30,8 +30,8 @@ impl Machine {
         self.standings[thread.get() as usize] = Standing::Waiting;
     }
 
-    /// The same for a wait that may have a deadline. The parts of the mode come one by one: a value that is passed whole is packed into one
-    /// word, and each use takes its part out again.
+    /// The thread's wait for this object, which may have a deadline, pends from now on. The parts of the mode come one by one: a value that
+    /// is passed whole is packed into one word, and each use takes its part out again.
     #[inline(never)]
     fn pend_until(
         &mut self,
@@ -76,7 +76,7 @@ impl Machine {
         }
     }
 
-    /// The same for any number of objects. Where memory is refused nothing changes.
+    /// The thread's wait for any number of objects pends from now on. Where memory is refused nothing changes.
     #[inline(never)]
     fn pend_any(
         &mut self,

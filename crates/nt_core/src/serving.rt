@@ -47,7 +47,8 @@ impl Machine {
         self.grants.push_reserved(Grant { thread, status });
     }
 
-    /// The same for a wait for this object alone, as most are, which was looked at already. Answers whose wait on the object began next.
+    /// Tests the pending wait of this thread, which is for this object alone, as most are, and was looked at already. Ends it where it
+    /// fits. Answers whose wait on the object began next.
     #[inline(always)]
     fn visit_one(&mut self, thread: ThreadId, object: ObjectNumber, all: bool) -> Option<ThreadId>
         requires only { option_map only_of (fin.get self.old.table.pending thread) ≡ Some (Some (object, all)) }

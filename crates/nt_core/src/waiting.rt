@@ -181,7 +181,7 @@ impl Machine {
         replied(self.wait_for(thread, denied, &[object], all, mode))
     }
 
-    /// The same for the handles of a slice.
+    /// The caller's wait for the objects that the handles of a slice name, begun or refused by its own causes.
     fn wait_for_objects(
         &mut self,
         thread: ThreadId,
@@ -199,7 +199,7 @@ impl Machine {
         }
     }
 
-    /// The same for the handles of a list.
+    /// The caller's wait for the objects that the handles of a list name, begun or refused by its own causes.
     #[inline(always)]
     fn wait_for_listed(
         &mut self,
@@ -218,7 +218,7 @@ impl Machine {
         }
     }
 
-    /// The same for none or several handles. A list of few objects has less room to clear.
+    /// The caller's wait for the objects of no handle or of several. A list of few objects has less room to clear.
     fn wait_for_several(
         &mut self,
         thread: ThreadId,
@@ -239,8 +239,8 @@ impl Machine {
         }
     }
 
-    /// The same for at most `FEW_OBJECTS`. It stands apart, since the list of their objects lies in its own frame, and the parts of the mode
-    /// come one by one, as to `pend_one`.
+    /// The caller's wait for at most `FEW_OBJECTS`. A function of its own, since the list of their objects lies in its own frame. The parts
+    /// of the mode come one by one, as to `pend_one`.
     #[inline(never)]
     fn wait_for_few(
         &mut self,
@@ -262,7 +262,7 @@ impl Machine {
         self.wait_for(thread, denied, few.as_slice(), all, mode)
     }
 
-    /// The same for at most `MAX_WAIT_OBJECTS`.
+    /// The caller's wait for at most `MAX_WAIT_OBJECTS`.
     #[inline(never)]
     fn wait_for_many(
         &mut self,

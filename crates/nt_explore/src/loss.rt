@@ -98,7 +98,7 @@ fn keep(lost: &mut [bool], edge: Edge)
     }
 }
 
-/// The same of each edge, the last first.
+/// Does as `keep` does for each edge, the last first.
 fn pass_back(lost: &mut [bool], pairs: &[Edge])
     ensures { lost.new ≡ levels.passed pairs.now lost.old }
 {

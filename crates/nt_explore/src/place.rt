@@ -34,7 +34,7 @@ pub fn at_start(alloc: Global, start: &Core, plan: &Plan) -> Result<Place, Alloc
     place_of(start, places)
 }
 
-/// The same, in memory of its own.
+/// The same place, in memory of its own.
 pub fn copy_of(alloc: Global, place: &Place) -> Result<Place, AllocError>
     ensures point { IfOk result (λ copied. point_of copied ≡ point_of place.now) }
     ensures wide { IfOk result (λ copied. length copied.places.items ≡ length place.now.places.items) }

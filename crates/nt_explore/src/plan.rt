@@ -38,7 +38,7 @@ impl Model for Plan {
     ghost invariant = { λ p. length p.lanes.items ≤ 2 ^ 32 };
 }
 
-/// So many lanes in which nothing is done.
+/// `count` lanes in which nothing is done.
 fn empty_lanes(alloc: Global, count: usize) -> Result<Vec<Vec<Ask>>, AllocError>
     ensures { IfOk result (λ lanes. plan_of lanes.items ≡ replicate count []) }
 {

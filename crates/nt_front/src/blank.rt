@@ -80,8 +80,8 @@ pub fn prepare(alloc: Global, threads: u32, journal_room: usize) -> Result<Blank
     prepare_for(alloc, threads, journal_room, false)
 }
 
-/// The same, for a front that lasts: the numbers of closed handles and of objects that are gone are given again, and a thread that has
-/// ended can begin again.
+/// Makes what `prepare` makes, for a front that lasts. The numbers of closed handles and of objects that are gone are given again there,
+/// and a thread that has ended can begin again.
 pub fn prepare_lasting(alloc: Global, threads: u32, journal_room: usize) -> Result<Blank, Refusal>
     ensures ok { IfOk result (λ b. (b.threads ≡ threads) × (b.room ≡ journal_room)
         × (is_lawful_front threads journal_room ≡ true)) }

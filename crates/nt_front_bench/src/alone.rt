@@ -53,7 +53,7 @@ fn create_semaphore<N: Named, R: Wait>(
     );
 }
 
-/// So many auto-reset events, none of them set.
+/// Creates auto-reset events, none of them set.
 fn create_events<N: Named, R: Wait>(
     rt: &R,
     front: &Front<N>,
@@ -66,7 +66,7 @@ fn create_events<N: Named, R: Wait>(
     }
 }
 
-/// So many manual-reset timers.
+/// Creates manual-reset timers.
 fn create_timers<N: Named, R: Wait>(
     rt: &R,
     front: &Front<N>,

@@ -274,7 +274,7 @@ fn planned<N: Named + Send + Sync, R: Threads + Wait + Clock + Sync>(
     }
 }
 
-/// The same, with the memory for the way.
+/// Opens the front, and has its threads do the plan, with the memory for the way.
 fn planned_in<N: Named + Send + Sync, R: Threads + Wait + Clock + Sync>(
     rt: &R,
     alloc: Global,

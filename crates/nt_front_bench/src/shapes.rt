@@ -26,7 +26,7 @@ pub enum Kind {
     Workers(u32),
     /// The calls of `Event` on the dispatcher alone, with no lock and no journal.
     Core,
-    /// The same, with an entry written for each.
+    /// The calls of `Core`, with an entry written for each.
     CoreAndJournal,
     /// A lock is taken and given back.
     Lock,

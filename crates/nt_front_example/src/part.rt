@@ -17,7 +17,7 @@ pub fn replay_part<N: Named>(
     Ok(())
 }
 
-/// The same with the rest of the journal.
+/// Makes the calls and ticks of the journal's rest again: each answer is the same.
 pub fn replay_rest(history: History) -> Result<(), Fault> {
     let (base, entries) = history.into_run();
     let after = replay(base, entries.as_slice())?;

@@ -34,7 +34,7 @@ impl Model for Bindings {
 impl Bindings {
     ghost use Rattle.nt_grammar.specs.Lines.{opened_scope};
 
-    /// So many threads, and no name.
+    /// For `threads` threads, with no name.
     pub fn new(alloc: Global, threads: u32) -> Bindings
         ensures { result.scope ≡ opened_scope threads }
     {

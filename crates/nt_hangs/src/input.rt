@@ -13,7 +13,7 @@ fn first_zero(bytes: &[u8]) -> Option<usize>
     memchr(0, bytes)
 }
 
-/// The same, or the length where there is none.
+/// Where the first zero byte is, or the length where there is none.
 fn zero_start(bytes: &[u8]) -> usize
     ensures place { result ≡ unwrap_or (position is_zero bytes.now) (length bytes.now) }
     ensures within { result ≤ length bytes.now }

@@ -192,7 +192,7 @@ impl Watch {
         }
     }
 
-    /// The same, with the calls that were refused.
+    /// Carries out the lines up to this one, and reports, with the calls that were refused.
     fn found(
         &mut self,
         alloc: Global,

@@ -196,7 +196,7 @@ impl Watch {
         Ok(())
     }
 
-    /// The same of a line that may be too long.
+    /// Carries out the line with this number, which may be too long, and notes what is seen.
     pub fn see_line(&mut self, alloc: Global, number: u64, line: &[u8]) -> Result<(), RunFault>
         requires counted { AreCounted number (progress_of self.old.session) }
         requires places { vec_len self.old.since ≡ MAX_THREADS }

@@ -38,7 +38,7 @@ fn begin(core: &mut Core, spare: &mut Spare) -> Option<Begun>
     Some(Begun { thread, handle })
 }
 
-/// The same; none begins if each number is given once.
+/// A thread begins as by `begin`; none begins if each number is given once.
 pub(crate) fn begin_with(core: &mut Core, spare: &mut Option<Spare>) -> Option<Begun>
     requires lawful { IsLawful core.old }
     requires spare { MaySpare (state core.old) spare.old }
@@ -67,7 +67,7 @@ fn begin_this(core: &mut Core, spare: &mut Spare, thread: u32) -> Option<Handle>
     Some(handle)
 }
 
-/// The same; none begins if each number is given once.
+/// A thread begins as by `begin_this`; none begins if each number is given once.
 pub(crate) fn begin_this_with(
     core: &mut Core,
     spare: &mut Option<Spare>,

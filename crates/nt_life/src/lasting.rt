@@ -131,8 +131,8 @@ impl Lasting {
         self.call_told(who, call, &mut told)
     }
 
-    /// The same, and tells which numbers were given again: what has to be written down of the call, so that it can be made again. None if
-    /// the call was the machine's own.
+    /// Makes the call as `call` does, and tells which numbers were given again. That has to be written down of the call, so that it can be
+    /// made again. None if the call was the machine's own.
     #[inline(always)]
     pub fn call_told(
         &mut self,

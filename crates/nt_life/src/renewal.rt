@@ -12,7 +12,7 @@ pub enum Renewal {
         object: ObjectNumber,
         handle: Handle,
     },
-    /// The same, once the object's number was added for it.
+    /// As `Create`, once the object's number was added for it.
     CreateAdded {
         act: Act,
         object: ObjectNumber,

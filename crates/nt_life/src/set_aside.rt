@@ -49,7 +49,7 @@ fn set_aside(core: &mut Core, spare: &mut Spare, thread: u32) -> Result<ObjectNu
     Ok(set_aside_at(core, spare, thread, place))
 }
 
-/// The same; none is set aside if each number is given once.
+/// Sets the thread's object aside as `set_aside` does; none is set aside if each number is given once.
 pub(crate) fn set_aside_with(
     core: &mut Core,
     spare: &mut Option<Spare>,

@@ -197,7 +197,7 @@ impl LockRun {
         comes
     }
 
-    /// The same where the lock is so.
+    /// From one place to another, where the lock passes this test.
     pub(crate) fn walk_if(&mut self, t: usize, from: Place, test: LockTest, to: Place) -> bool
         requires { t < length self.old.seats.items }
         ensures { Reads self.old (Moves.walk_if (state_of self.old) t from test to) self.new result }
@@ -209,7 +209,7 @@ impl LockRun {
         comes
     }
 
-    /// The same where the thread's plain stores have arrived, too.
+    /// From one place to another, where the lock passes this test and the thread's plain stores have arrived.
     pub(crate) fn miss(&mut self, t: usize, from: Place, test: LockTest, to: Place) -> bool
         requires { t < length self.old.seats.items }
         ensures { Reads self.old (Moves.miss (state_of self.old) t from test to) self.new result }

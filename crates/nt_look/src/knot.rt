@@ -51,7 +51,7 @@ fn holds(
     }
 }
 
-/// The same of the object with this number; one that there is not is as good as a thread that runs.
+/// Whether `holds` is so of the object with this number. An object that there is not counts as a thread that runs.
 fn held_at(core: &Core, knot: &[bool], thread: ThreadId, number: ObjectNumber) -> bool
     ensures { result ≡ held_at (state core.now) (marked knot.now) thread number }
 {

@@ -77,7 +77,7 @@ pub(crate) enum LaneFault {
     NoThread,
 }
 
-/// The same with the line's number.
+/// Why the line with this number is not of a lane.
 fn orders_fault_at(line: u64, fault: LaneFault) -> OrdersFault
     ensures { result ≡ at_line line fault }
 {

@@ -187,7 +187,7 @@ impl ParkRun {
         self.seats[t] = seat;
     }
 
-    /// The same, where it owes whom it owed.
+    /// Thread t is so from now on, and owes whom it owed.
     pub(crate) fn becomes(&mut self, t: usize, seat: ParkSeat)
         requires t { t < length self.old.seats.items }
         requires owes { seat.owes ≡ (get_or self.old.seats.items t outside).owes }
@@ -218,7 +218,7 @@ impl ParkRun {
         self.becomes(t, ParkSeat { place, ..seat });
     }
 
-    /// The same, and the latch is so from now on.
+    /// Thread t goes to this place, and the latch is so from now on.
     pub(crate) fn latches(&mut self, t: usize, place: ParkPlace, latch: bool)
         requires { t < length self.old.seats.items }
         ensures state { state_of self.new ≡ uncounted (record (Protocol.goes (state_of self.old) t (place_of place)) { latch = latch }) }

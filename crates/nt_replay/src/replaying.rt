@@ -54,8 +54,8 @@ fn replay_all(core: &mut Core, entries: &[PackedEntry]) -> Result<(), Unreplayed
     Ok(())
 }
 
-/// Does again what one entry tells, or compares its grant. So many grants of the last call were compared before; it answers how many are
-/// now.
+/// Does again what one entry tells, or compares its grant. `compared` is how many grants of the last call were compared before; it answers
+/// how many are now.
 fn replay_entry(
     core: &mut Core,
     compared: usize,

@@ -112,7 +112,7 @@ impl Standing {
         }
     }
 
-    /// The same, if it is another thread than the caller.
+    /// The turn of this thread, if it can go on and is another thread than the caller.
     pub(crate) fn turn_but(self, caller: usize, thread: usize) -> Option<Turn>
         ensures { result ≡ turn_but caller thread self }
     {

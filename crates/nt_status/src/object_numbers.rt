@@ -87,7 +87,7 @@ impl ObjectNumbers {
         self.one = Some([object]);
     }
 
-    /// A new list of these objects in the place of its own. It stands apart, since mostly there are as many as before.
+    /// A new list of these objects in the place of its own. A function of its own, since mostly there are as many as before.
     #[inline(never)]
     fn copy_from_slow(&mut self, objects: &[ObjectNumber]) -> Result<(), AllocError>
         ensures ok { OnOk result (self.new ≡ objects.now) }

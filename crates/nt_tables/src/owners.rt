@@ -30,7 +30,7 @@ impl Model for Owners {
 }
 
 impl Owners {
-    /// So many threads that own nothing.
+    /// For `threads` threads, which own nothing.
     pub fn new(alloc: Global, threads: usize) -> Result<Self, AllocError>
         ensures lists { IfOk result (λ owners. owners.lists ≡ replicate threads []) }
     {

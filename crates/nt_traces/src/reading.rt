@@ -16,7 +16,7 @@ use std::alloc::{AllocError, Global};
 /// What a trace is found to be.
 #[derive(Clone, Copy, Debug, PartialEq, Eq)]
 pub enum Verdict {
-    /// So many lines, each of which begins a run or is a step of one.
+    /// This number of lines, each of which begins a run or is a step of one.
     IsRun(u64),
     /// The event on this line is the first that is no step.
     IsNoStep(u64),

@@ -147,7 +147,7 @@ impl WordRun {
         self.seats[t] = seat;
     }
 
-    /// The same, where it owes whom it owed.
+    /// Thread t is so from now on, and owes whom it owed.
     pub(crate) fn becomes(&mut self, t: usize, seat: WordSeat)
         requires t { t < length self.old.seats.items }
         requires owes { seat.owes ≡ (get_or self.old.seats.items t outside).owes }

@@ -54,7 +54,7 @@ impl WordRun {
         comes
     }
 
-    /// The same where it owes nobody a wake-up.
+    /// From one place to another, where it owes nobody a wake-up.
     fn leave(&mut self, t: usize, from: WordPlace, to: WordPlace) -> bool
         requires { t < length self.old.seats.items }
         ensures { Reads self.old (Moves.leave (state_of self.old) t from to) self.new result }

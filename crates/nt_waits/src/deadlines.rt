@@ -48,7 +48,7 @@ pub fn clear_alarm(alarms: &mut Alarms, t: ThreadId)
     }
 }
 
-/// The same where some thread has an alarm.
+/// Clears the thread's alarm, if it has one, where some thread has an alarm.
 #[inline(never)]
 fn clear_alarm_slow(alarms: &mut Alarms, t: ThreadId)
     ensures here { alarm_at alarms.new t ≡ None }

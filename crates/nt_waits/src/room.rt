@@ -28,7 +28,7 @@ pub fn with_room(queues: Queues, room: Room) -> Result<Queues, AllocError>
     Ok(roomy)
 }
 
-/// So many places, each empty.
+/// `count` places, each empty.
 pub fn empty_places(alloc: Global, count: usize) -> Result<Vec<Slot>, AllocError>
     ensures empty { IfOk result (λ waits. (u : ℕ) → slot_at waits.items u ≡ None) }
     ensures there { IfOk result (λ waits. count ≤ length waits.items) }

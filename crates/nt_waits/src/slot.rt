@@ -223,7 +223,7 @@ impl Slot {
         self.pends = false;
     }
 
-    /// The same for a wait for this object alone. Answers the thread of the block after its own.
+    /// Takes the block of its wait, which is for this object alone, out of its queue. Answers the thread of the block after it.
     pub fn empty_one(&mut self, queues: &mut Queues, object: ObjectNumber) -> Option<ThreadId>
         requires there { IsSome self.old }
         requires one { ForSome self.old (λ p. p.wait.objects ≡ object ∷ []) }

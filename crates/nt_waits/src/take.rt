@@ -24,7 +24,8 @@ pub fn end_wait(queues: &mut Queues, waits: &mut Vec<Slot>, t: ThreadId)
     waits[t.get() as usize].empty(queues);
 }
 
-/// The same for a wait for this object alone. Answers the thread whose wait on the object began next.
+/// Ends the thread's wait, which is for this object alone, as `end_wait` does. Answers the thread whose
+/// wait on the object began next.
 pub fn end_one_wait(
     queues: &mut Queues,
     waits: &mut Vec<Slot>,

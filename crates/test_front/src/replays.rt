@@ -32,7 +32,7 @@ enum Told {
     Ends,
     /// The first thread creates an event, at these numbers of an object and a handle.
     CreatesAt(u32, u32, Result<u32, Refusal>),
-    /// The same, once the object's number was added.
+    /// As `CreatesAt`, once the object's number was added.
     CreatesAdded(u32, u32),
     /// No object number could be added for a creation of the first thread.
     AddsNone(Refusal),

@@ -89,7 +89,7 @@ impl Room {
         flushes: false,
     };
 
-    /// So many bytes, and then the writer fails.
+    /// Takes `whole` bytes, and then the writer fails.
     pub fn of(whole: usize) -> Room {
         Room {
             whole,

@@ -249,7 +249,7 @@ fn is_told(
     is_told_after(alloc, &mut core, steps, stuck, knot, due)
 }
 
-/// The same, with a second try where memory is refused.
+/// `is_told`, with a second try where memory is refused.
 fn is_told_at_last(
     rt: &impl Host,
     steps: &[(u32, Does)],

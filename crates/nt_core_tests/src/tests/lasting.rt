@@ -237,13 +237,13 @@ fn first_wrong(
     Ok(None)
 }
 
-/// The same of a new dispatcher.
+/// The first step that goes otherwise in a new dispatcher, by its number from 1.
 fn play(alloc: Global, threads: u32, steps: &[Does]) -> Result<Option<usize>, Refusal> {
     let mut life = Lasting::new(alloc, threads)?;
     first_wrong(alloc, &mut life, steps)
 }
 
-/// The same, with a second try where memory is refused.
+/// `play`, with a second try where memory is refused.
 fn play_at_last(rt: &impl Host, threads: u32, steps: &[Does]) -> Result<Option<usize>, Refusal> {
     play(rt.alloc(), threads, steps).or_else(|refusal| {
         tell_refusal(rt, refusal, "a dispatcher that lasts");

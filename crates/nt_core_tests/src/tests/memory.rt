@@ -129,7 +129,7 @@ pub fn answer_to(rt: &impl Host, core: &mut Core, who: u32, ask: Ask, objects: &
     }
 }
 
-/// The same, with the handles of a wait for objects as a slice.
+/// Asks for this of these objects, with the handles of a wait for objects as a slice.
 pub fn answer_by_slice(
     rt: &impl Host,
     core: &mut Core,

@@ -231,7 +231,7 @@ fn is_row(alloc: Global, row: &Row) -> Result<bool, Refusal> {
     explores(alloc, &mut core, row)
 }
 
-/// The same, with a second try where memory is refused.
+/// `is_row`, with a second try where memory is refused.
 fn is_row_at_last(rt: &impl Host, row: &Row) -> Result<bool, Refusal> {
     is_row(rt.alloc(), row).or_else(|refusal| {
         tell_refusal(rt, refusal, "every order");
@@ -272,7 +272,7 @@ fn is_learned(alloc: Global, most: usize, met: &'static [usize]) -> Result<bool,
     learns(alloc, &mut core, most, met)
 }
 
-/// The same, with a second try where memory is refused.
+/// `is_learned`, with a second try where memory is refused.
 fn is_learned_at_last(rt: &impl Host, most: usize, met: &'static [usize]) -> Result<bool, Refusal> {
     is_learned(rt.alloc(), most, met).or_else(|refusal| {
         tell_refusal(rt, refusal, "a watcher");

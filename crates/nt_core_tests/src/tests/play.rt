@@ -219,7 +219,7 @@ pub fn play_all_in_both(rt: &impl Host, scenarios: &[Scenario]) -> Result<(), Fa
     Ok(())
 }
 
-/// The same for one scenario.
+/// Plays one scenario with copies, as `play_all_in_both` does.
 fn play_in_both(rt: &impl Host, scenario: &Scenario) -> Result<(), Refusal> {
     let steps = scenario.steps.len();
     if is_refusing(rt) {

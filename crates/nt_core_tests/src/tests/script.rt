@@ -65,7 +65,7 @@ pub enum Ask {
     Timer(u32),
     /// A due time and a period.
     Arm(i64, i32),
-    /// The same, and a routine with its argument.
+    /// A due time, a period, and a routine with its argument.
     ArmRoutine(i64, i32, u64, u64),
     Cancel,
     /// One handle more, with these rights.
@@ -114,7 +114,7 @@ pub type Ended = (u16, u32);
 pub enum Step {
     /// The caller, what it asks, of which objects, what it is answered, and the waits that end, in their order.
     Call(u32, Ask, &'static [u32], Answer, &'static [Ended]),
-    /// The same, and the handles of a wait for objects are handed over as a slice.
+    /// The same as `Call`, and the handles of a wait for objects are handed over as a slice.
     Slice(u32, Ask, &'static [u32], Answer, &'static [Ended]),
     /// The same as `Call` for a call that takes no memory: whichever growth is refused, it is answered at once.
     NoGrowth(u32, Ask, &'static [u32], Answer, &'static [Ended]),
@@ -141,11 +141,11 @@ pub enum Step {
     Closed(&'static [u32], bool),
     /// All moments up to this one pass. The answer, and the waits that end, in their order. It takes no memory.
     Tick(u64, Answer, &'static [Ended]),
-    /// So many pending waits the last call or tick tested.
+    /// The last call or tick tested this number of pending waits.
     Tested(u64),
     /// This is the present moment.
     Now(u64),
-    /// So many objects live.
+    /// This number of objects live.
     Living(u64),
     /// The next moment up to this one at which something is due.
     Due(u64, Option<u64>),

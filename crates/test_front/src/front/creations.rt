@@ -159,7 +159,7 @@ fn create_on<N: Named>(
     }
 }
 
-/// The same with room for the holds.
+/// Opens the front, creates an event, takes a part, and tells what the history has, with room for the holds.
 fn create_with<N: Named>(
     rt: &impl Wait,
     alloc: Global,

@@ -26,7 +26,7 @@ pub enum Answer {
     NoMemory,
     /// The thread's place is not free, and nothing was written.
     Taken,
-    /// So many entries are in the part, of which the first is the number of the answer.
+    /// The part has this number of entries, of which the first is the number of the answer.
     Entries(usize),
     /// The moment that a pass reads.
     Moment(u64),

@@ -227,7 +227,7 @@ const SLEEPS: Job = Job::Sleep {
     sets: None,
 };
 
-/// The same, and answers.
+/// Sleeps until the event is set, and answers.
 const ANSWERS_THEN: Job = Job::Sleep {
     object: Some(STARTS),
     sets: Some(ANSWERS),

@@ -35,7 +35,7 @@ fn answer_text(alloc: Global, answer: &Result<Reply, Refusal>) -> Result<String,
     }
 }
 
-/// What a transcript says of this entry. So many lines of the script have come, this one's included.
+/// What a transcript says of this entry. `line` lines of the script have come, this one's included.
 fn entry_text(alloc: Global, line: u32, entry: &PackedEntry) -> Result<String, AllocError> {
     match entry.read() {
         ReadEntry::Called { result, .. } => {
