@@ -1,11 +1,9 @@
 //! The forms of a timeline that are drawn: their common layout.
 
 use crate::draw::Form;
-use crate::layout::Layout;
-use crate::objects::left_of;
 use crate::page::page_of;
-use crate::picture::picture_of;
 use crate::trace::trace_of;
+use nt_picture::{Layout, left_of, picture_of};
 use nt_script::Session;
 use nt_timeline::{Film, Part, Words};
 use std::alloc::{AllocError, Global};

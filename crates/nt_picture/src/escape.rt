@@ -3,7 +3,7 @@
 use std::alloc::{AllocError, Global};
 
 /// Puts the text so that it stands for itself: a byte that is no ASCII text becomes `?`.
-pub(crate) fn put_escaped(out: &mut Vec<u8>, text: &[u8]) -> Result<(), AllocError> {
+pub fn put_escaped(out: &mut Vec<u8>, text: &[u8]) -> Result<(), AllocError> {
     for byte in text {
         match *byte {
             b'&' => out.extend_from_slice(b"&amp;")?,

@@ -135,7 +135,7 @@ fn put_objects(
 }
 
 /// The picture of the shown steps.
-pub(crate) fn picture_of(
+pub fn picture_of(
     alloc: Global,
     file: &[u8],
     film: &Film,

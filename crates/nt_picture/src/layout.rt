@@ -16,7 +16,7 @@ pub(crate) const TOP: u32 = 92;
 
 /// Where in a picture what stands, in pixels.
 #[derive(Drop)]
-pub(crate) struct Layout {
+pub struct Layout {
     /// By the places of steps, how far to the right each stands.
     pub x: Vec<u32>,
     /// Which steps are shown.
@@ -195,7 +195,7 @@ impl Layout {
     }
 
     /// Where the steps of the part stand, right of this.
-    pub(crate) fn of(
+    pub fn of(
         alloc: Global,
         kept: &Kept,
         part: &Part<'_>,

@@ -292,7 +292,7 @@ pub(crate) fn put_row(
 }
 
 /// How far to the right the names of the objects reach.
-pub(crate) fn left_of(kept: &Kept, words: Words<'_>) -> u32 {
+pub fn left_of(kept: &Kept, words: Words<'_>) -> u32 {
     let mut left: u32 = 150;
     for place in 0..words.objects.len() {
         let kind = match first_of(kept, place) {
