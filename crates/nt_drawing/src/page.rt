@@ -1,9 +1,9 @@
 //! The timeline as a page of its own: the picture, a list of what each line did, and a script that links the two. It loads nothing.
 
 use crate::page_parts::{LISTED, SCRIPT, STYLE, TOOLS};
-use nt_hangs::put_number;
 use nt_picture::{Layout, put_escaped};
 use nt_timeline::{Ended, Film, Kind, Step, Words, name_of};
+use nt_wording::put_number;
 use std::alloc::{AllocError, Global};
 
 /// Puts a cell of the list.

@@ -4,10 +4,10 @@
 //! format's words, leads from the call that ended a wait to the wait. Times are those of the ticks, but two lines are at least two
 //! microseconds apart, so that their order shows.
 
-use nt_hangs::put_thread_title;
 use nt_lines::{MAX_DIGITS, number_of};
 use nt_picture::Layout;
 use nt_timeline::{Ended, Film, Kind, Step, Words, name_of};
+use nt_wording::put_thread_title;
 use std::alloc::{AllocError, Global};
 
 /// How far apart two lines are at the least, in microseconds.

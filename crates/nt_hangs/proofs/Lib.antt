@@ -1,4 +1,3 @@
-pub mod Cutting
 pub mod Seeing
 pub mod Telling
 pub mod Marking

@@ -12,8 +12,8 @@ use Rattle.nt_hangs.specs.declared.reports.Report.{Report}
 use Rattle.nt_hangs.specs.declared.reports.Found.{Found}
 use Rattle.nt_hangs.specs.Watching.{Seen, SeesAll, StopsAt, unseen}
 use Rattle.nt_hangs.specs.Absent.{AreAbsent, AreHeld}
-use Rattle.nt_hangs.specs.Waits.{waiters_text}
-use Rattle.nt_hangs.specs.Verdicts.{verdict_text, code_of}
+use Rattle.nt_wording.specs.Waits.{waiters_text}
+use Rattle.nt_wording.specs.Verdicts.{verdict_text, code_of}
 
 -- the file's name, and the number of its last line
 abbrev pub place_text : List ℕ → ℕ → List ℕ

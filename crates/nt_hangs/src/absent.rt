@@ -8,13 +8,12 @@ ghost use Rattle.nt_core.specs.Dispatcher.{state};
 ghost use Rattle.nt_look.specs.Hangs.{marked, unmarked, IsStuck};
 ghost use Rattle.nt_hangs.specs.Absent.{caller_in, is_call_of, AreAbsent, AreHeld};
 
-use crate::input::first_line;
 use crate::reports::last_moment;
-use crate::verdicts::is_marked;
 use nt_core::Core;
 use nt_lines::{caller_of, first_word, text_of};
 use nt_look::{Verdict, greatest_knot, is_stuck};
 use nt_status::MAX_THREADS;
+use nt_wording::{first_line, is_marked};
 use std::alloc::{AllocError, Global};
 
 /// The thread that calls on a line, if one does.

@@ -3,9 +3,9 @@ ghost use Rattle.std.specs.Prelude.{◌≡◌, ◌++◌, IfOk, OnOk, Err};
 ghost use Rattle.nt_devices.specs.Device.{Says};
 ghost use Rattle.nt_hangs.specs.Ending.{hang_message, hang_status, SaysMemory};
 
-use crate::text::put_number;
 use nt_devices::{Sink, write_whole};
 use nt_script::RunFault;
+use nt_wording::put_number;
 use std::alloc::{AllocError, Global};
 
 /// Says a line, and answers the exit status that goes with it. A failure to say it is ignored.

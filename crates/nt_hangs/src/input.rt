@@ -1,9 +1,10 @@
 //! The bytes of a script, and its lines.
-ghost use Rattle.std.specs.Prelude.{◌≡◌, ◌≢◌, ◌<◌, ◌≤◌, ◌∷◌, [], length, position, unwrap_or, IfSome};
+ghost use Rattle.std.specs.Prelude.{◌≡◌, ◌<◌, ◌≤◌, length, position, unwrap_or, IfSome};
 ghost use Rattle.nt_lines.specs.Lines.{lines_of};
 ghost use Rattle.nt_hangs.specs.Watching.{before_zero, is_zero};
 
 use memchr::memchr;
+use nt_wording::first_line;
 
 /// Where the first zero byte is.
 fn first_zero(bytes: &[u8]) -> Option<usize>
@@ -40,16 +41,4 @@ pub(crate) fn lines_in(bytes: &[u8]) -> u64
         count += 1;
     }
     count
-}
-
-/// The first line, without the LF that ends it, and what stands after it.
-pub fn first_line(bytes: &[u8]) -> (&[u8], &[u8])
-    requires { bytes.now ≢ [] }
-    ensures lines { lines_of bytes.now ≡ result.0.now ∷ lines_of result.1.now }
-    ensures shorter { length result.1.now < length bytes.now }
-{
-    match memchr(b'\n', bytes) {
-        Some(place) => (&bytes[..place], &bytes[place + 1..]),
-        None => (bytes, &bytes[bytes.len()..]),
-    }
 }

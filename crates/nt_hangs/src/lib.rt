@@ -9,26 +9,17 @@
 mod absent;
 mod errors;
 mod input;
-mod names;
-mod objects;
 mod reading;
 mod refusals;
 mod reports;
-mod text;
-mod verdicts;
-mod waits;
 mod watch;
 mod why;
 
 pub use absent::{absent_in, verdict_of};
 pub use errors::{lacks_memory, say};
-pub use input::{before_zero, first_line};
-pub use names::{called_by, put_object_name, put_thread_title};
+pub use input::before_zero;
 pub use reading::{InputFault, read_whole};
 pub use refusals::refusals_line;
 pub use reports::{Found, Report, last_moment, put_head, report_on};
-pub use text::{put_number, put_signed};
-pub use verdicts::{code_of, marks_in, put_held, put_verdict};
-pub use waits::put_waiters;
 pub use watch::Watch;
 pub use why::{show, show_found, tell, why_file, why_over};

@@ -3,9 +3,9 @@ ghost use Rattle.std.specs.Prelude.{◌≡◌, nat_lt};
 ghost use Rattle.nt_hangs.specs.Ending.{refused_code, Warns};
 
 use crate::errors::say;
-use crate::text::put_number;
 use nt_devices::Sink;
 use nt_lines::{MAX_DIGITS, number_of};
+use nt_wording::put_number;
 use std::alloc::{AllocError, Global};
 
 /// The most refused calls that are listed one by one.

@@ -5,20 +5,18 @@ ghost use Rattle.nt_core.specs.Dispatcher.{state};
 ghost use Rattle.nt_script.specs.Progress.{progress};
 ghost use Rattle.nt_status.specs.declared.limits.TheConstants.{MAX_MOMENT};
 ghost use Rattle.nt_hangs.specs.Reports.{head_text, place_text, report_text, IsReport, Reports, ReportsOf, ReportsSeen, FindsSeen};
-ghost use Rattle.nt_hangs.specs.Verdicts.{verdict_text};
+ghost use Rattle.nt_wording.specs.Verdicts.{verdict_text};
 ghost use Rattle.nt_hangs.specs.Watching.{before_zero, seen_of, unseen, lines_up_to};
 
 use crate::absent::{absent_in, verdict_of};
 use crate::input::before_zero;
 use crate::refusals::refusals_line;
-use crate::text::put_number;
-use crate::verdicts::{code_of, put_verdict};
-use crate::waits::put_waiters;
 use crate::watch::Watch;
 use nt_core::Core;
 use nt_look::Verdict;
 use nt_script::{RunFault, Session};
 use nt_status::{MAX_MOMENT, Moment};
+use nt_wording::{code_of, put_number, put_verdict, put_waiters};
 use std::alloc::{AllocError, Global};
 
 /// Puts the file's name and a colon.

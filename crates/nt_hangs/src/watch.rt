@@ -11,12 +11,12 @@ ghost use Rattle.nt_lines.specs.Lines.{lines_of};
 ghost use Rattle.nt_hangs.specs.Steps.{is_last, LineHasFault, IsFaultOf, WatchesLines};
 ghost use Rattle.nt_hangs.specs.Watching.{is_waiting, names_of, newly_named, object_of, seen_of, since_of, since_then, telling, unseen, lines_up_to, Sees};
 
-use crate::input::first_line;
 use crate::refusals::note_refusal;
 use nt_grammar::{LineFault, ScriptFault};
 use nt_lines::MAX_LINE;
 use nt_script::{RunFault, Session, carry_out};
 use nt_status::{Handle, MAX_THREADS};
+use nt_wording::first_line;
 use std::alloc::{AllocError, Global};
 
 /// The greatest number of threads, each of which has a place.

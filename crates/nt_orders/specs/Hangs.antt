@@ -3,7 +3,7 @@ use Rattle.std.specs.Prelude.{◌≡◌, ℕ, ◌<◌, ◌&&◌, ◌==◌, ◌++
 use Rattle.std.specs.FinMap.{len}
 use Rattle.nt_calls.specs.State.{State, pends}
 use Rattle.nt_look.specs.Hangs.{IsGreatestKnot, marked}
-use Rattle.nt_hangs.specs.Verdicts.{knot_text, marks_in, others_text}
+use Rattle.nt_wording.specs.Verdicts.{knot_text, marks_in, others_text}
 
 -- the threads that hold each other, and that no other wait ends either; or that all is stuck
 abbrev pub hang_text : State → List ℕ → Bool → List Bool → List ℕ

@@ -7,8 +7,8 @@ ghost use Rattle.nt_script.specs.Transcript.{moment_text};
 
 use nt_apc::Apc;
 use nt_core::{Grant, Reply};
-use nt_hangs::{put_number, put_signed};
 use nt_status::{OptionalMoment, Refusal, Status, ThreadId};
+use nt_wording::{put_number, put_signed};
 use std::alloc::{AllocError, Global};
 
 /// Puts the name of a status, with the index of its object.

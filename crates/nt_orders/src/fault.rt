@@ -2,8 +2,8 @@
 ghost use Rattle.std.specs.Prelude.{◌≡◌, ◌++◌, IfOk, OnOk, codes, decimal};
 ghost use Rattle.nt_orders.specs.Faults.{order_line, line_text, order_message, order_reason, order_status};
 
-use nt_hangs::put_number;
 use nt_script::RunFault;
+use nt_wording::put_number;
 use std::alloc::{AllocError, Global};
 
 /// Why the orders of a script are not explored.

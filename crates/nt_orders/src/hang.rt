@@ -6,8 +6,8 @@ ghost use Rattle.nt_core.specs.Dispatcher.{state};
 ghost use Rattle.nt_orders.specs.Hangs.{hang_text, AreHeld};
 
 use nt_core::Core;
-use nt_hangs::{marks_in, put_held};
 use nt_look::greatest_knot;
+use nt_wording::{marks_in, put_held};
 use std::alloc::{AllocError, Global};
 
 /// Whether the thread has a mark.

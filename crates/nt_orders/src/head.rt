@@ -6,9 +6,10 @@ ghost use Rattle.nt_orders.specs.Plans.{is_of_head, IsHeadFault, ReadsHead};
 ghost use Rattle.nt_orders.specs.Reading.{IsEnd, IsFaultAt};
 
 use nt_grammar::{LineFault, ScriptFault, Statement};
-use nt_hangs::{Watch, first_line};
+use nt_hangs::Watch;
 use nt_lines::MAX_LINE;
 use nt_script::RunFault;
+use nt_wording::first_line;
 use std::alloc::Global;
 
 /// Why the line with this number can't be carried out.

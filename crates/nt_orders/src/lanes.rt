@@ -18,9 +18,10 @@ use crate::head::{fault_at, see_head};
 use nt_calls::Call;
 use nt_explore::{Ask, Plan};
 use nt_grammar::{LineFault, ScriptFault, Statement};
-use nt_hangs::{Watch, first_line};
+use nt_hangs::Watch;
 use nt_lines::{MAX_LINE, first_word, text_of};
 use nt_script::{RunFault, Session};
+use nt_wording::first_line;
 use std::alloc::{AllocError, Global};
 
 /// A line of a lane.

@@ -10,8 +10,9 @@ use crate::lanes::{Script, read_script};
 use crate::rows::put_rows;
 use nt_core::Core;
 use nt_explore::{Explored, Loss, Verdict, Watcher, explore};
-use nt_hangs::{Report, before_zero, put_number, put_thread_title, put_waiters};
+use nt_hangs::{Report, before_zero};
 use nt_look::is_stuck;
+use nt_wording::{put_number, put_thread_title, put_waiters};
 use std::alloc::{AllocError, Global};
 
 /// Nobody learns how far the search is.

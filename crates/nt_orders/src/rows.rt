@@ -3,7 +3,7 @@ ghost use Rattle.std.specs.Prelude.{◌≡◌, ◌++◌, OnOk};
 ghost use Rattle.nt_orders.specs.Rows.{line_text, number_width, row_place_text, row_text, rows_text, text_width};
 
 use crate::text::{digits_in, put_gap};
-use nt_hangs::put_number;
+use nt_wording::put_number;
 use std::alloc::AllocError;
 
 /// A step: the line that was carried out, and what came of it.

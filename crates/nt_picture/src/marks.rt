@@ -2,9 +2,9 @@
 
 use crate::escape::{begin_group, bytes_in, end_group, put_cut, put_text};
 use crate::layout::{LANE, Layout, TOP, at, below_of};
-use nt_hangs::called_by;
 use nt_status::Status;
 use nt_timeline::{Ended, Kept, Kind, Step, name_of};
+use nt_wording::called_by;
 use std::alloc::{AllocError, Global};
 
 /// How far to the right a lane's name begins, in pixels.
@@ -296,7 +296,7 @@ pub(crate) fn put_behind(
 ) -> Result<(), AllocError> {
     let x = at(&layout.x, place);
     let mut number = Vec::new(alloc);
-    nt_hangs::put_number(&mut number, step.line)?;
+    nt_wording::put_number(&mut number, step.line)?;
     put_text(alloc, out, "number", x, TOP - 6, &number)?;
     if step.who.is_none() {
         put_tick(alloc, out, layout, step, x, bottom)?;

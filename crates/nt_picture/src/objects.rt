@@ -3,9 +3,9 @@
 use crate::escape::{put_cut, put_escaped, put_text, width_of};
 use crate::layout::{Layout, at};
 use crate::marks::put_raw;
-use nt_hangs::{called_by, put_number, put_signed};
 use nt_objects::{Armed, Object};
 use nt_timeline::{Change, Kept, Part, Words};
+use nt_wording::{called_by, put_number, put_signed};
 use std::alloc::{AllocError, Global};
 
 /// The longest name that is shown whole, in bytes.

@@ -7,8 +7,9 @@ use crate::marks::{put_before, put_behind, put_lane, put_raw};
 use crate::objects::{ROW, put_row, rows_of};
 use crate::pending::{BULGE, put_pending};
 use crate::style::STYLE;
-use nt_hangs::{code_of, put_verdict, verdict_of};
+use nt_hangs::verdict_of;
 use nt_timeline::{Film, Part, Words};
+use nt_wording::{code_of, put_verdict};
 use std::alloc::{AllocError, Global};
 
 /// Puts the head: the size, the style, the file's name and the verdict.

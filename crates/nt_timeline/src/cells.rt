@@ -2,7 +2,7 @@
 
 use crate::answers::name_of;
 use crate::steps::{Ended, Kind, Step};
-use nt_hangs::put_number;
+use nt_wording::put_number;
 use std::alloc::{AllocError, Global};
 
 /// Puts a call, and what it answered.

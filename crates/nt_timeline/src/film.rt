@@ -10,8 +10,9 @@ ghost use Rattle.nt_hangs.specs.Watching.{seen_of, unseen, Sees};
 use crate::kept::Kept;
 use crate::labels::Words;
 use nt_grammar::ScriptFault;
-use nt_hangs::{Watch, absent_in, first_line};
+use nt_hangs::{Watch, absent_in};
 use nt_script::RunFault;
+use nt_wording::first_line;
 use std::alloc::{AllocError, Global};
 
 /// A script that is run, and what is kept of it.

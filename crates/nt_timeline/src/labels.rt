@@ -1,9 +1,9 @@
 //! What a picture calls a call.
 
-use nt_hangs::{called_by, put_number, put_object_name};
 use nt_lines::{first_word, number_of};
 use nt_script::Session;
 use nt_status::Handle;
+use nt_wording::{called_by, put_number, put_object_name};
 use std::alloc::{AllocError, Global};
 
 /// What a word that names an object stands for.

@@ -3,9 +3,9 @@
 use crate::film::Film;
 use crate::part::Part;
 use nt_faults::nearest_name;
-use nt_hangs::put_number;
 use nt_lines::caller_of;
 use nt_script::Session;
+use nt_wording::put_number;
 use std::alloc::{AllocError, Global};
 
 /// The most names that are listed.

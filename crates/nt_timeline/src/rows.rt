@@ -5,7 +5,7 @@ use crate::kept::Kept;
 use crate::part::Part;
 use crate::steps::{Ended, Step};
 use crate::waiting::{MOST_THREADS, Waiting};
-use nt_hangs::{put_number, put_thread_title};
+use nt_wording::{put_number, put_thread_title};
 use std::alloc::{AllocError, Global};
 
 /// How wide the line's number stands.

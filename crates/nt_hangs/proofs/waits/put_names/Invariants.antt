@@ -1,7 +1,0 @@
-use Rattle.std.proofs.Common.{◌≡◌, ◌++◌, take}
-use Rattle.nt_script.specs.Progress.{progress}
-use Rattle.nt_hangs.specs.Waits.{names_text}
-use Rattle.nt_hangs.proofs.waits.put_names.Given as goal
-
-abbrev pub invariant-loop-number : goal.invariant-loop-number
-invariant-loop-number l = l.out.items ≡ l.fn.out.items ++ names_text (progress l.session) l.objects (take l.number-index l.numbers)
