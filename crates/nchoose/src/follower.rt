@@ -1,13 +1,13 @@
 //! Runs, written down line by line, compared with the machine.
 
-use crate::told_line::{Line, line_in};
+use crate::told_line::{RunLine, line_in};
 use memchr::memchr;
 use nt_schedule::{Differs, Run};
 use std::alloc::{AllocError, Global};
 
 /// What is found.
 #[derive(Clone, Copy)]
-pub enum Found {
+pub enum Comparison {
     /// This number of runs and of steps, and the machine goes as each.
     Same(u64, u64),
     /// On this line it goes otherwise.
@@ -60,11 +60,11 @@ impl Follower {
     fn take(&mut self, alloc: Global, line: &[u8]) -> Result<Taken, AllocError> {
         match line_in(line, self.is_free) {
             None => Ok(Taken::NoStep),
-            Some(Line::Run(is_free)) => {
+            Some(RunLine::Run(is_free)) => {
                 self.begin(alloc, is_free);
                 Ok(Taken::Same)
             }
-            Some(Line::Step(told)) => {
+            Some(RunLine::Step(told)) => {
                 self.steps = self.steps.saturating_add(1);
                 match self.run.follow(told)? {
                     None => Ok(Taken::Same),
@@ -74,27 +74,27 @@ impl Follower {
         }
     }
 
-    fn take_all(&mut self, alloc: Global, text: &[u8]) -> Found {
+    fn take_all(&mut self, alloc: Global, text: &[u8]) -> Comparison {
         let mut rest = text;
         for number in 1..u64::MAX {
             if rest.is_empty() {
-                return Found::Same(self.runs, self.steps);
+                return Comparison::Same(self.runs, self.steps);
             }
             let (line, after) = first_line(rest);
             match self.take(alloc, line) {
                 Ok(Taken::Same) => {}
-                Ok(Taken::Differs(differs)) => return Found::Differs(number, differs),
-                Ok(Taken::NoStep) => return Found::NoStep(number),
-                Err(AllocError) => return Found::Memory,
+                Ok(Taken::Differs(differs)) => return Comparison::Differs(number, differs),
+                Ok(Taken::NoStep) => return Comparison::NoStep(number),
+                Err(AllocError) => return Comparison::Memory,
             }
             rest = after;
         }
-        Found::Memory
+        Comparison::Memory
     }
 }
 
 /// Has the machine follow what the text tells, to its end or to where it goes otherwise.
-pub fn follow(alloc: Global, text: &[u8]) -> Found {
+pub fn follow(alloc: Global, text: &[u8]) -> Comparison {
     let mut follower = Follower::new(alloc);
     let found = follower.take_all(alloc, text);
     drop(follower);

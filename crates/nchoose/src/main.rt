@@ -9,7 +9,7 @@
 mod follower;
 mod told_line;
 
-use crate::follower::{Found, follow};
+use crate::follower::{Comparison, follow};
 use nt_devices::{Counted, Sink, Source, write_and_flush};
 use nt_schedule::{Choice, Differs};
 use std::alloc::{AllocError, Global};
@@ -45,16 +45,16 @@ fn read_whole<R: Source>(alloc: Global, reader: &mut R) -> Result<Option<Vec<u8>
 }
 
 /// What is found of what the reader gives; none where a read fails.
-fn find<R: Source>(alloc: Global, reader: &mut R) -> Option<Found> {
+fn find<R: Source>(alloc: Global, reader: &mut R) -> Option<Comparison> {
     match read_whole(alloc, reader) {
         Ok(Some(text)) => Some(follow(alloc, &text)),
         Ok(None) => None,
-        Err(AllocError) => Some(Found::Memory),
+        Err(AllocError) => Some(Comparison::Memory),
     }
 }
 
 /// What is found in this file, or on standard input.
-fn found<R: AllocGlobal + Files + Input>(rt: &R, file: Option<&str>) -> Option<Found> {
+fn found<R: AllocGlobal + Files + Input>(rt: &R, file: Option<&str>) -> Option<Comparison> {
     match file {
         Some(path) => match fs::open(rt, path) {
             Ok(file) => find(rt.alloc(), &mut Counted::new(file)),
@@ -78,29 +78,31 @@ fn differs_in<R: AllocGlobal>(rt: &R, differs: Differs) -> Result<String, AllocE
     }
 }
 
-fn said<R: AllocGlobal>(rt: &R, found: Option<Found>) -> Result<String, AllocError> {
+fn said<R: AllocGlobal>(rt: &R, found: Option<Comparison>) -> Result<String, AllocError> {
     match found {
-        Some(Found::Same(runs, steps)) => format!(in rt.alloc(); "{runs} runs, {steps} steps\n"),
-        Some(Found::Differs(line, differs)) => {
+        Some(Comparison::Same(runs, steps)) => format!(in rt.alloc();
+            "{runs} runs, {steps} steps\n"
+        ),
+        Some(Comparison::Differs(line, differs)) => {
             let differs = differs_in(rt, differs)?;
             format!(in rt.alloc(); "line {line}: {differs}\n")
         }
-        Some(Found::NoStep(line)) => format!(in rt.alloc(); "nchoose: line {line}: no step\n"),
-        Some(Found::Memory) => format!(in rt.alloc(); "nchoose: out of memory\n"),
+        Some(Comparison::NoStep(line)) => format!(in rt.alloc(); "nchoose: line {line}: no step\n"),
+        Some(Comparison::Memory) => format!(in rt.alloc(); "nchoose: out of memory\n"),
         None => format!(in rt.alloc(); "nchoose: read failed\n"),
     }
 }
 
-fn status_of(found: Option<Found>) -> u8 {
+fn status_of(found: Option<Comparison>) -> u8 {
     match found {
-        Some(Found::Same(_, _)) => 0,
-        Some(Found::Differs(_, _)) => 1,
+        Some(Comparison::Same(_, _)) => 0,
+        Some(Comparison::Differs(_, _)) => 1,
         _ => 2,
     }
 }
 
 /// Tells what was found, and answers the exit status.
-fn tell<R: AllocGlobal, W: Sink>(rt: &R, found: Option<Found>, writer: &mut W) -> u8 {
+fn tell<R: AllocGlobal, W: Sink>(rt: &R, found: Option<Comparison>, writer: &mut W) -> u8 {
     match said(rt, found) {
         Ok(text) => {
             if write_and_flush(writer, text.as_str().as_bytes()).is_ok() {

@@ -1,17 +1,17 @@
 //! What a line says, as `c/schedule/told.c` writes it.
 
 use nt_lines::{caller_of, first_word, number_of};
-use nt_schedule::{Asked, Choice, Point, Slept, Told, Turned, Woken};
+use nt_schedule::{Choice, Point, Slept, StepReport, TurnRequest, Turned, Woken};
 
 /// The most digits of a number of 64 bits.
 const MOST_DIGITS: usize = 20;
 
 /// What a line says.
 #[derive(Clone, Copy)]
-pub enum Line {
+pub enum RunLine {
     /// A run begins, in which deadlines may come early or not.
     Run(bool),
-    Step(Told),
+    Step(StepReport),
 }
 
 /// The only word of a text.
@@ -119,7 +119,7 @@ fn turned_in(text: &[u8], is_free: bool) -> Option<Turned> {
     let (time, left) = first_word(left)?;
     let choice = choice_in(choice)?;
     let is_decided = decided_in(left)?;
-    let asked = Asked {
+    let asked = TurnRequest {
         point: point_in(point)?,
         caller: thread_in(caller)?,
         wanted: if is_decided { Some(choice) } else { None },
@@ -133,12 +133,12 @@ fn turned_in(text: &[u8], is_free: bool) -> Option<Turned> {
 }
 
 /// A run begins: `free` may follow.
-fn run_in(text: &[u8]) -> Option<Line> {
+fn run_in(text: &[u8]) -> Option<RunLine> {
     match first_word(text) {
-        None => Some(Line::Run(false)),
+        None => Some(RunLine::Run(false)),
         Some(_) => {
             if only_word(text)? == b"free".as_slice() {
-                Some(Line::Run(true))
+                Some(RunLine::Run(true))
             } else {
                 None
             }
@@ -147,35 +147,35 @@ fn run_in(text: &[u8]) -> Option<Line> {
 }
 
 /// A step of this kind, with what stands after it.
-fn told_in(kind: &[u8], text: &[u8], is_free: bool) -> Option<Told> {
+fn told_in(kind: &[u8], text: &[u8], is_free: bool) -> Option<StepReport> {
     if kind == b"turn".as_slice() {
-        Some(Told::Turns(turned_in(text, is_free)?))
+        Some(StepReport::Turns(turned_in(text, is_free)?))
     } else if kind == b"passes".as_slice() {
-        Some(Told::Passes(number_in(only_word(text)?)?))
+        Some(StepReport::Passes(number_in(only_word(text)?)?))
     } else if kind == b"sleeps".as_slice() {
-        Some(Told::Sleeps(slept_in(text)?))
+        Some(StepReport::Sleeps(slept_in(text)?))
     } else if kind == b"wakes".as_slice() {
-        Some(Told::Wakes(wakes_in(text)?))
+        Some(StepReport::Wakes(wakes_in(text)?))
     } else if kind == b"rouses".as_slice() {
-        Some(Told::Rouses(thread_in(only_word(text)?)?))
+        Some(StepReport::Rouses(thread_in(only_word(text)?)?))
     } else if kind == b"ends".as_slice() {
-        Some(Told::Ends(thread_in(only_word(text)?)?))
+        Some(StepReport::Ends(thread_in(only_word(text)?)?))
     } else if first_word(text).is_some() {
         None
     } else if kind == b"comes".as_slice() {
-        Some(Told::Comes)
+        Some(StepReport::Comes)
     } else if kind == b"hangs".as_slice() {
-        Some(Told::Hangs)
+        Some(StepReport::Hangs)
     } else {
         None
     }
 }
 
 /// What the line says, if it says anything.
-pub fn line_in(line: &[u8], is_free: bool) -> Option<Line> {
+pub fn line_in(line: &[u8], is_free: bool) -> Option<RunLine> {
     let (kind, left) = first_word(line)?;
     if kind == b"run".as_slice() {
         return run_in(left);
     }
-    Some(Line::Step(told_in(kind, left, is_free)?))
+    Some(RunLine::Step(told_in(kind, left, is_free)?))
 }

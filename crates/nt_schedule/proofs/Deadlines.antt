@@ -3,9 +3,9 @@ use Rattle.std.proofs.Common.{◌≡◌, ◌≢◌, ◌⊎◌, inl, inr, ℕ, ze
 use Rattle.std.specs.Prelude.{is_some, ◌==◌, if◌then◌else◌}
 use Rattle.std.proofs.lemmas.Bool.{cases_lt, leb-false}
 use Rattle.std.proofs.lemmas.List.{length-set, get_or-set_same, get_or-set_other}
-use Rattle.nt_schedule.specs.declared.standing.Standing.{Standing}
+use Rattle.nt_schedule.specs.declared.standing.ThreadState.{ThreadState}
 use Rattle.nt_schedule.specs.declared.standing.Choice.{Choice}
-use Rattle.nt_schedule.specs.declared.standing.Asked.{Asked}
+use Rattle.nt_schedule.specs.declared.standing.TurnRequest.{TurnRequest}
 use Rattle.nt_schedule.specs.Turns.{standing, can_go_on, until_of, has_come, is_due, deadline, choice_of, Moment, next_number, let_go_on, waits_anew, due_goes_on, looked_round, looked, jumped, goes_by}
 use Rattle.nt_schedule.specs.Laws.{IsNextDeadline, TellsTime}
 use Rattle.nt_schedule.proofs.WhoGoesOn.{past, at_or_below, deadline_is, deadline_least, clock_means, clock_alone}
@@ -16,7 +16,7 @@ due_length : (m : Moment) (n : ℕ) → length (due_goes_on m n).threads ≡ len
 due_length m n = go (is_due m.time (standing m.threads n))
   where
     go : (b : Bool) → length (if b then let_go_on m n else m).threads ≡ length m.threads
-    go true = length-set m.threads n (Standing.Ready (next_number m.turns))
+    go true = length-set m.threads n (ThreadState.Ready (next_number m.turns))
     go false = refl
 
 due_time : (m : Moment) (n : ℕ) → (due_goes_on m n).time ≡ m.time
@@ -30,14 +30,14 @@ due_others : (m : Moment) (n t : ℕ) → t ≢ n → standing (due_goes_on m n)
 due_others m n t other = go (is_due m.time (standing m.threads n))
   where
     go : (b : Bool) → standing (if b then let_go_on m n else m).threads t ≡ standing m.threads t
-    go true = get_or-set_other m.threads n t (Standing.Ready (next_number m.turns)) Standing.Ended other
+    go true = get_or-set_other m.threads n t (ThreadState.Ready (next_number m.turns)) ThreadState.Ended other
     go false = refl
 
 due_itself : (m : Moment) (n : ℕ) → n < length m.threads → is_due m.time (standing (due_goes_on m n).threads n) ≡ false
 due_itself m n lt = go (is_due m.time (standing m.threads n)) refl
   where
     go : (b : Bool) → is_due m.time (standing m.threads n) ≡ b → is_due m.time (standing (if b then let_go_on m n else m).threads n) ≡ false
-    go true is = ap (λ (it : Standing). is_due m.time it) (get_or-set_same m.threads n (Standing.Ready (next_number m.turns)) Standing.Ended lt)
+    go true is = ap (λ (it : ThreadState). is_due m.time it) (get_or-set_same m.threads n (ThreadState.Ready (next_number m.turns)) ThreadState.Ended lt)
     go false is = is
 
 looked_length : (n : ℕ) (m : Moment) → length (looked_round n m).threads ≡ length m.threads
@@ -61,7 +61,7 @@ none_of_them (suc n) m within t lt = go (none_of_them n m) (at_or_below t n lt)
         subst (λ (k : ℕ). is_due m.time (standing (due_goes_on (looked_round n m) n).threads k) ≡ false) (sym same) at_time
     go before (inr less) =
         let other : t ≢ n = omega (arith, less) in
-        ap (λ (it : Standing). is_due m.time it) (due_others (looked_round n m) n t other) ∙ before (omega (arith, within)) t less
+        ap (λ (it : ThreadState). is_due m.time it) (due_others (looked_round n m) n t other) ∙ before (omega (arith, within)) t less
 
 -- nobody is due once it was looked round
 none_is_due : (m : Moment) (t : ℕ) → is_due m.time (standing (looked m).threads t) ≡ false
@@ -69,7 +69,7 @@ none_is_due m t = go (cases_lt t (length m.threads))
   where
     go : (t < length m.threads) ⊎ (length m.threads ≤ t) → is_due m.time (standing (looked m).threads t) ≡ false
     go (inl lt) = none_of_them (length m.threads) m (omega arith) t lt
-    go (inr le) = let long = looked_length (length m.threads) m in ap (λ (it : Standing). is_due m.time it) (past (looked m).threads t (omega (arith, le, long)))
+    go (inr le) = let long = looked_length (length m.threads) m in ap (λ (it : ThreadState). is_due m.time it) (past (looked m).threads t (omega (arith, le, long)))
 
 later_than : (time moment : ℕ) → has_come time (Some moment) ≡ false → time < moment
 later_than time moment e = leb-false moment time e
@@ -135,7 +135,7 @@ goes_onward m caller (Choice.Thread t) = let same = thread_time caller t (looked
 goes_onward m caller Choice.Clock = let same = looked_time (length m.threads) m in let more = jumps_onward (deadline (length (looked m).threads) (looked m).threads) (looked m) in omega (arith, same, more)
 goes_onward m caller Choice.Nobody = let same = looked_time (length m.threads) m in omega (arith, same)
 
-pub time_tells : (m : Moment) (asked : Asked) → TellsTime m asked (choice_of asked (looked m).threads) (goes_by asked.caller (choice_of asked (looked m).threads) (looked m))
+pub time_tells : (m : Moment) (asked : TurnRequest) → TellsTime m asked (choice_of asked (looked m).threads) (goes_by asked.caller (choice_of asked (looked m).threads) (looked m))
 time_tells m asked = record {
   onward = goes_onward m asked.caller (choice_of asked (looked m).threads);
   stays = stays_at m asked.caller (choice_of asked (looked m).threads);

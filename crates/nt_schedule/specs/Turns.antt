@@ -1,13 +1,13 @@
 -- The threads of a run, who of them goes on, and the time.
 use Rattle.std.specs.Prelude.{ℕ, zero, suc, ◌+◌, ◌-◌, ◌^◌, min, max, nat_lt, nat_le, ◌==◌, ◌&&◌, Bool, true, false, List, [], ◌∷◌, ◌++◌, length, slice_index_or, slice_set, is_some, Option, None, Some, if◌then◌else◌}
 use Rattle.std.specs.Option.{option_map}
-use Rattle.nt_schedule.specs.declared.standing.Standing.{Standing}
+use Rattle.nt_schedule.specs.declared.standing.ThreadState.{ThreadState}
 use Rattle.nt_schedule.specs.declared.standing.Point.{Point}
 use Rattle.nt_schedule.specs.declared.standing.Choice.{Choice}
-use Rattle.nt_schedule.specs.declared.standing.Asked.{Asked}
+use Rattle.nt_schedule.specs.declared.standing.TurnRequest.{TurnRequest}
 use Rattle.nt_schedule.specs.declared.standing.Turn.{Turn}
 use Rattle.nt_schedule.specs.declared.turns.Turns.{Turns}
-use Rattle.nt_schedule.specs.declared.told.Told.{Told}
+use Rattle.nt_schedule.specs.declared.told.StepReport.{StepReport}
 use Rattle.nt_schedule.specs.declared.told.Turned.{Turned}
 use Rattle.nt_schedule.specs.declared.told.Differs.{Differs}
 use Rattle.nt_schedule.specs.declared.following.Run.{Run}
@@ -15,26 +15,26 @@ use Rattle.nt_schedule.specs.declared.following.Run.{Run}
 -- ---- one thread
 
 -- how the thread of this number stands; one that there is not has ended
-abbrev pub standing : List Standing → ℕ → Standing
-standing threads thread = slice_index_or threads thread Standing.Ended
+abbrev pub standing : List ThreadState → ℕ → ThreadState
+standing threads thread = slice_index_or threads thread ThreadState.Ended
 
-abbrev pub can_go_on : Standing → Bool
-can_go_on (Standing.Ready since) = true
-can_go_on (Standing.Asleep sleep) = false
-can_go_on Standing.Ended = false
+abbrev pub can_go_on : ThreadState → Bool
+can_go_on (ThreadState.Ready since) = true
+can_go_on (ThreadState.Asleep sleep) = false
+can_go_on ThreadState.Ended = false
 
 -- the moment to which it sleeps
-abbrev pub until_of : Standing → Option ℕ
-until_of (Standing.Ready since) = None
-until_of (Standing.Asleep sleep) = sleep.until
-until_of Standing.Ended = None
+abbrev pub until_of : ThreadState → Option ℕ
+until_of (ThreadState.Ready since) = None
+until_of (ThreadState.Asleep sleep) = sleep.until
+until_of ThreadState.Ended = None
 
 abbrev pub has_come : ℕ → Option ℕ → Bool
 has_come time None = false
 has_come time (Some moment) = nat_le moment time
 
 -- that moment has come
-abbrev pub is_due : ℕ → Standing → Bool
+abbrev pub is_due : ℕ → ThreadState → Bool
 is_due time it = has_come time (until_of it)
 
 -- ---- of several threads
@@ -46,7 +46,7 @@ earlier (Some m) None = Some m
 earlier (Some m) (Some n) = if nat_lt n m then Some n else Some m
 
 -- the earliest moment to which one of the first so many threads sleeps
-abbrev pub deadline : ℕ → List Standing → Option ℕ
+abbrev pub deadline : ℕ → List ThreadState → Option ℕ
 deadline zero threads = None
 deadline (suc n) threads = earlier (deadline n threads) (until_of (standing threads n))
 
@@ -57,35 +57,35 @@ longest (Some a) None = Some a
 longest (Some a) (Some b) = if nat_lt b.since a.since then Some b else Some a
 
 -- the turn of a thread that can go on
-abbrev pub turn_of : ℕ → Standing → Option Turn
-turn_of thread (Standing.Ready since) = Some (record { since = since; thread = thread })
-turn_of thread (Standing.Asleep sleep) = None
-turn_of thread Standing.Ended = None
+abbrev pub turn_of : ℕ → ThreadState → Option Turn
+turn_of thread (ThreadState.Ready since) = Some (record { since = since; thread = thread })
+turn_of thread (ThreadState.Asleep sleep) = None
+turn_of thread ThreadState.Ended = None
 
 -- the same of another than the caller
-abbrev pub turn_but : ℕ → ℕ → Standing → Option Turn
+abbrev pub turn_but : ℕ → ℕ → ThreadState → Option Turn
 turn_but caller thread it = if thread == caller then None else turn_of thread it
 
 -- of the first so many threads, without the caller, the one that has waited the longest for its turn
-abbrev pub waiting : ℕ → ℕ → List Standing → Option Turn
+abbrev pub waiting : ℕ → ℕ → List ThreadState → Option Turn
 waiting zero caller threads = None
 waiting (suc n) caller threads = longest (waiting n caller threads) (turn_but caller n (standing threads n))
 
 -- the sleep of a thread that sleeps on this word
-abbrev pub sleep_on : ℕ → ℕ → Standing → Option Turn
-sleep_on word thread (Standing.Ready since) = None
-sleep_on word thread (Standing.Asleep sleep) = if sleep.word == word then Some (record { since = sleep.number; thread = thread }) else None
-sleep_on word thread Standing.Ended = None
+abbrev pub sleep_on : ℕ → ℕ → ThreadState → Option Turn
+sleep_on word thread (ThreadState.Ready since) = None
+sleep_on word thread (ThreadState.Asleep sleep) = if sleep.word == word then Some (record { since = sleep.number; thread = thread }) else None
+sleep_on word thread ThreadState.Ended = None
 
 -- of the first so many threads the one that fell asleep first on this word
-abbrev pub sleeper : ℕ → ℕ → List Standing → Option Turn
+abbrev pub sleeper : ℕ → ℕ → List ThreadState → Option Turn
 sleeper zero word threads = None
 sleeper (suc n) word threads = longest (sleeper n word threads) (sleep_on word n (standing threads n))
 
 -- ---- who goes on
 
 -- where no other thread can: the caller if it can, else the clock, if there is a deadline
-abbrev pub alone : ℕ → List Standing → Choice
+abbrev pub alone : ℕ → List ThreadState → Choice
 alone caller threads =
     if can_go_on (standing threads caller) then Choice.Thread caller
     else if is_some (deadline (length threads) threads) then Choice.Clock
@@ -96,11 +96,11 @@ turn_or None other = other
 turn_or (Some turn) other = Choice.Thread turn.thread
 
 -- the other thread that has waited the longest, if one can go on
-abbrev pub in_turn : ℕ → List Standing → Choice
+abbrev pub in_turn : ℕ → List ThreadState → Choice
 in_turn caller threads = turn_or (waiting (length threads) caller threads) (alone caller threads)
 
 -- who goes on where nothing is decided: the caller, where it calls; else the next in turn
-abbrev pub usual : Point → ℕ → List Standing → Choice
+abbrev pub usual : Point → ℕ → List ThreadState → Choice
 usual Point.Call caller threads = if can_go_on (standing threads caller) then Choice.Thread caller else in_turn caller threads
 usual Point.Yield caller threads = in_turn caller threads
 usual Point.Sleep caller threads = in_turn caller threads
@@ -112,27 +112,27 @@ is_thread Choice.Clock = false
 is_thread Choice.Nobody = false
 
 -- a deadline may come early: the time is free, there is one, and usually a thread goes on
-abbrev pub may_jump : Asked → List Standing → Bool
+abbrev pub may_jump : TurnRequest → List ThreadState → Bool
 may_jump asked threads = asked.is_free && is_some (deadline (length threads) threads) && is_thread (usual asked.point asked.caller threads)
 
 -- that may be chosen there
-abbrev pub is_possible : Asked → List Standing → Choice → Bool
+abbrev pub is_possible : TurnRequest → List ThreadState → Choice → Bool
 is_possible asked threads (Choice.Thread thread) = can_go_on (standing threads thread)
 is_possible asked threads Choice.Clock = may_jump asked threads
 is_possible asked threads Choice.Nobody = false
 
-abbrev pub wanted_or : Asked → List Standing → Option Choice → Choice
+abbrev pub wanted_or : TurnRequest → List ThreadState → Option Choice → Choice
 wanted_or asked threads None = usual asked.point asked.caller threads
 wanted_or asked threads (Some choice) = if is_possible asked threads choice then choice else usual asked.point asked.caller threads
 
 -- who goes on: what is wanted if that may be chosen, else who does usually
-abbrev pub choice_of : Asked → List Standing → Choice
+abbrev pub choice_of : TurnRequest → List ThreadState → Choice
 choice_of asked threads = wanted_or asked threads asked.wanted
 
 -- ---- a moment of a run
 
 pub record Moment : Type 0 where
-  pub threads : List Standing
+  pub threads : List ThreadState
   pub time : ℕ
   -- how often a thread could go on from then on, and how often one fell asleep
   pub turns : ℕ
@@ -148,12 +148,12 @@ opening = record { threads = []; time = 0; turns = 0; sleeps = 0 }
 abbrev pub next_number : ℕ → ℕ
 next_number n = min (n + 1) (2 ^ 64 - 1)
 
-abbrev pub put : Moment → ℕ → Standing → Moment
+abbrev pub put : Moment → ℕ → ThreadState → Moment
 put m thread it = record m { threads = slice_set m.threads thread it }
 
 -- it can go on from now on
 abbrev pub let_go_on : Moment → ℕ → Moment
-let_go_on m thread = put (record m { turns = next_number m.turns }) thread (Standing.Ready (next_number m.turns))
+let_go_on m thread = put (record m { turns = next_number m.turns }) thread (ThreadState.Ready (next_number m.turns))
 
 abbrev pub due_goes_on : Moment → ℕ → Moment
 due_goes_on m thread = if is_due m.time (standing m.threads thread) then let_go_on m thread else m
@@ -183,11 +183,11 @@ goes_by caller Choice.Nobody m = m
 
 -- one thread more, which can go on
 abbrev pub come : Moment → Moment
-come m = record m { threads = m.threads ++ Standing.Ready (next_number m.turns) ∷ []; turns = next_number m.turns }
+come m = record m { threads = m.threads ++ ThreadState.Ready (next_number m.turns) ∷ []; turns = next_number m.turns }
 
 abbrev pub fallen_asleep : Moment → ℕ → ℕ → Option ℕ → Moment
 fallen_asleep m thread word until =
-    put (record m { sleeps = next_number m.sleeps }) thread (Standing.Asleep (record { word = word; until = until; number = next_number m.sleeps }))
+    put (record m { sleeps = next_number m.sleeps }) thread (ThreadState.Asleep (record { word = word; until = until; number = next_number m.sleeps }))
 
 abbrev pub thread_of : Turn → ℕ
 thread_of turn = turn.thread
@@ -200,17 +200,17 @@ goes_on_if (Some turn) m = let_go_on m turn.thread
 abbrev pub woken : ℕ → Moment → Moment
 woken word m = goes_on_if (sleeper (length m.threads) word m.threads) m
 
-abbrev pub sleeps : Standing → Bool
-sleeps (Standing.Ready since) = false
-sleeps (Standing.Asleep sleep) = true
-sleeps Standing.Ended = false
+abbrev pub sleeps : ThreadState → Bool
+sleeps (ThreadState.Ready since) = false
+sleeps (ThreadState.Asleep sleep) = true
+sleeps ThreadState.Ended = false
 
 -- what it sleeps for has come by another way than a call: it can go on
 abbrev pub roused : Moment → ℕ → Moment
 roused m thread = if sleeps (standing m.threads thread) then let_go_on m thread else m
 
 abbrev pub ended : Moment → ℕ → Moment
-ended m thread = put m thread Standing.Ended
+ended m thread = put m thread ThreadState.Ended
 
 abbrev pub passed : ℕ → Moment → Moment
 passed units m = record m { time = min (m.time + units) (2 ^ 64 - 1) }
@@ -245,15 +245,15 @@ abbrev pub moment_after : Turned → Moment → Moment
 moment_after it m = goes_by it.asked.caller (chosen_in it m) (looked m)
 
 -- how the run stands after what is told
-abbrev pub followed : Told → Course → Course
-followed Told.Comes c = record c { moment = come c.moment }
-followed (Told.Sleeps it) c = record c { moment = fallen_asleep c.moment it.thread it.word it.until }
-followed (Told.Wakes it) c = record c { moment = woken it.word c.moment }
-followed (Told.Rouses thread) c = record c { moment = roused c.moment thread }
-followed (Told.Ends thread) c = record c { moment = ended c.moment thread }
-followed (Told.Passes units) c = record c { moment = passed units c.moment }
-followed (Told.Turns it) c = record { moment = moment_after it c.moment; turn = turn_after it.asked.caller (chosen_in it c.moment) }
-followed Told.Hangs c = c
+abbrev pub followed : StepReport → Course → Course
+followed StepReport.Comes c = record c { moment = come c.moment }
+followed (StepReport.Sleeps it) c = record c { moment = fallen_asleep c.moment it.thread it.word it.until }
+followed (StepReport.Wakes it) c = record c { moment = woken it.word c.moment }
+followed (StepReport.Rouses thread) c = record c { moment = roused c.moment thread }
+followed (StepReport.Ends thread) c = record c { moment = ended c.moment thread }
+followed (StepReport.Passes units) c = record c { moment = passed units c.moment }
+followed (StepReport.Turns it) c = record { moment = moment_after it c.moment; turn = turn_after it.asked.caller (chosen_in it c.moment) }
+followed StepReport.Hangs c = c
 
 abbrev pub is_same : Choice → Choice → Bool
 is_same (Choice.Thread a) (Choice.Thread b) = a == b
@@ -284,12 +284,12 @@ choice_differs it m =
 abbrev pub sleeper_of : ℕ → Moment → Option ℕ
 sleeper_of word m = option_map thread_of (sleeper (length m.threads) word m.threads)
 
-abbrev pub differs : Told → Course → Option Differs
-differs Told.Comes c = None
-differs (Told.Sleeps it) c = turn_differs it.thread c
-differs (Told.Wakes it) c = if is_same_thread (sleeper_of it.word c.moment) it.thread then None else Some (Differs.Wakes (sleeper_of it.word c.moment))
-differs (Told.Rouses thread) c = None
-differs (Told.Ends thread) c = None
-differs (Told.Passes units) c = None
-differs (Told.Turns it) c = if is_turn_of it.asked.caller c.turn then choice_differs it c.moment else turn_differs it.asked.caller c
-differs Told.Hangs c = if is_same_thread c.turn None then None else Some (Differs.HasTurn c.turn)
+abbrev pub differs : StepReport → Course → Option Differs
+differs StepReport.Comes c = None
+differs (StepReport.Sleeps it) c = turn_differs it.thread c
+differs (StepReport.Wakes it) c = if is_same_thread (sleeper_of it.word c.moment) it.thread then None else Some (Differs.Wakes (sleeper_of it.word c.moment))
+differs (StepReport.Rouses thread) c = None
+differs (StepReport.Ends thread) c = None
+differs (StepReport.Passes units) c = None
+differs (StepReport.Turns it) c = if is_turn_of it.asked.caller c.turn then choice_differs it c.moment else turn_differs it.asked.caller c
+differs StepReport.Hangs c = if is_same_thread c.turn None then None else Some (Differs.HasTurn c.turn)

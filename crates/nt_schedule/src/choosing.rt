@@ -3,7 +3,7 @@
 ghost use Rattle.std.specs.Prelude.{◌≡◌, length};
 ghost use Rattle.nt_schedule.specs.Turns.{alone, in_turn, usual, may_jump, is_possible, choice_of, is_thread};
 
-use crate::standing::{Asked, Choice, Point};
+use crate::standing::{Choice, Point, TurnRequest};
 use crate::turns::Turns;
 
 impl Choice {
@@ -61,7 +61,7 @@ impl Turns {
     }
 
     /// Whether a deadline may come early.
-    fn may_jump(&self, asked: Asked) -> bool
+    fn may_jump(&self, asked: TurnRequest) -> bool
         ensures { result ≡ may_jump asked self.now.threads.items }
     {
         asked.is_free
@@ -69,7 +69,7 @@ impl Turns {
             && self.usual(asked.point, asked.caller).is_thread()
     }
 
-    fn is_possible(&self, asked: Asked, choice: Choice) -> bool
+    fn is_possible(&self, asked: TurnRequest, choice: Choice) -> bool
         ensures { result ≡ is_possible asked self.now.threads.items choice }
     {
         match choice {
@@ -80,7 +80,7 @@ impl Turns {
     }
 
     /// What is wanted if that can be, and else what is usual.
-    pub(crate) fn choose(&self, asked: Asked) -> Choice
+    pub(crate) fn choose(&self, asked: TurnRequest) -> Choice
         ensures { result ≡ choice_of asked self.now.threads.items }
     {
         match asked.wanted {

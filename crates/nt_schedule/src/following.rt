@@ -4,7 +4,7 @@ ghost use Rattle.std.specs.Prelude.{◌≡◌, IfOk, OnOk, OnErr};
 ghost use Rattle.nt_schedule.specs.Turns.{course_of, beginning, is_turn_of, turn_after, followed, is_same, is_same_thread, turn_differs, differs};
 
 use crate::standing::Choice;
-use crate::told::{Differs, Slept, Told, Turned, Woken};
+use crate::told::{Differs, Slept, StepReport, Turned, Woken};
 use crate::turns::Turns;
 use std::alloc::{AllocError, Global};
 
@@ -77,8 +77,8 @@ impl Run {
     }
 
     fn sleep(&mut self, it: Slept) -> Option<Differs>
-        ensures found { result ≡ differs (Told.Sleeps it) (course_of self.old) }
-        ensures course { course_of self.new ≡ followed (Told.Sleeps it) (course_of self.old) }
+        ensures found { result ≡ differs (StepReport.Sleeps it) (course_of self.old) }
+        ensures course { course_of self.new ≡ followed (StepReport.Sleeps it) (course_of self.old) }
     {
         let found = self.turn_differs(it.thread);
         self.turns.fall_asleep(it.thread, it.word, it.until);
@@ -86,8 +86,8 @@ impl Run {
     }
 
     fn wake(&mut self, it: Woken) -> Option<Differs>
-        ensures found { result ≡ differs (Told.Wakes it) (course_of self.old) }
-        ensures course { course_of self.new ≡ followed (Told.Wakes it) (course_of self.old) }
+        ensures found { result ≡ differs (StepReport.Wakes it) (course_of self.old) }
+        ensures course { course_of self.new ≡ followed (StepReport.Wakes it) (course_of self.old) }
     {
         let woken = self.turns.wake(it.word);
         if is_same_thread(woken, it.thread) {
@@ -99,8 +99,8 @@ impl Run {
 
     /// Whose turn it is goes on, as the machine chooses.
     fn take_turn(&mut self, it: Turned) -> Option<Differs>
-        ensures found { result ≡ differs (Told.Turns it) (course_of self.old) }
-        ensures course { course_of self.new ≡ followed (Told.Turns it) (course_of self.old) }
+        ensures found { result ≡ differs (StepReport.Turns it) (course_of self.old) }
+        ensures course { course_of self.new ≡ followed (StepReport.Turns it) (course_of self.old) }
     {
         let before = self.turn;
         let choice = self.turns.turn(it.asked);
@@ -118,7 +118,7 @@ impl Run {
     }
 
     fn hang(&self) -> Option<Differs>
-        ensures { result ≡ differs Told.Hangs (course_of self.now) }
+        ensures { result ≡ differs StepReport.Hangs (course_of self.now) }
     {
         if is_same_thread(self.turn, None) {
             None
@@ -128,22 +128,22 @@ impl Run {
     }
 
     /// Goes on by the reported step. Answers how the machine goes otherwise there, or none where it goes the same way.
-    pub fn follow(&mut self, told: Told) -> Result<Option<Differs>, AllocError>
+    pub fn follow(&mut self, told: StepReport) -> Result<Option<Differs>, AllocError>
         ensures found { IfOk result (λ found. found ≡ differs told (course_of self.old)) }
         ensures course { OnOk result (course_of self.new ≡ followed told (course_of self.old)) }
         ensures refused { OnErr result (course_of self.new ≡ course_of self.old) }
     {
         match told {
-            Told::Comes => {
+            StepReport::Comes => {
                 self.turns.come()?;
             }
-            Told::Sleeps(it) => return Ok(self.sleep(it)),
-            Told::Wakes(it) => return Ok(self.wake(it)),
-            Told::Rouses(thread) => self.turns.rouse(thread),
-            Told::Ends(thread) => self.turns.end(thread),
-            Told::Passes(units) => self.turns.pass(units),
-            Told::Turns(it) => return Ok(self.take_turn(it)),
-            Told::Hangs => return Ok(self.hang()),
+            StepReport::Sleeps(it) => return Ok(self.sleep(it)),
+            StepReport::Wakes(it) => return Ok(self.wake(it)),
+            StepReport::Rouses(thread) => self.turns.rouse(thread),
+            StepReport::Ends(thread) => self.turns.end(thread),
+            StepReport::Passes(units) => self.turns.pass(units),
+            StepReport::Turns(it) => return Ok(self.take_turn(it)),
+            StepReport::Hangs => return Ok(self.hang()),
         }
         Ok(None)
     }

@@ -14,7 +14,7 @@ pub struct Sleep {
 
 /// How a thread stands.
 #[derive(Clone, Copy, Debug, PartialEq, Eq)]
-pub enum Standing {
+pub enum ThreadState {
     /// It can go on, since this turn.
     Ready(u64),
     Asleep(Sleep),
@@ -42,7 +42,7 @@ pub enum Choice {
 
 /// A point, and what is wanted there.
 #[derive(Clone, Copy, Debug, PartialEq, Eq)]
-pub struct Asked {
+pub struct TurnRequest {
     pub point: Point,
     /// The thread that comes to it.
     pub caller: usize,
@@ -59,14 +59,14 @@ pub struct Turn {
     pub thread: usize,
 }
 
-impl Standing {
+impl ThreadState {
     pub(crate) fn can_go_on(self) -> bool
         ensures { result ≡ can_go_on self }
     {
         match self {
-            Standing::Ready(_) => true,
-            Standing::Asleep(_) => false,
-            Standing::Ended => false,
+            ThreadState::Ready(_) => true,
+            ThreadState::Asleep(_) => false,
+            ThreadState::Ended => false,
         }
     }
 
@@ -74,9 +74,9 @@ impl Standing {
         ensures { result ≡ sleeps self }
     {
         match self {
-            Standing::Ready(_) => false,
-            Standing::Asleep(_) => true,
-            Standing::Ended => false,
+            ThreadState::Ready(_) => false,
+            ThreadState::Asleep(_) => true,
+            ThreadState::Ended => false,
         }
     }
 
@@ -85,9 +85,9 @@ impl Standing {
         ensures { result ≡ until_of self }
     {
         match self {
-            Standing::Ready(_) => None,
-            Standing::Asleep(sleep) => sleep.until,
-            Standing::Ended => None,
+            ThreadState::Ready(_) => None,
+            ThreadState::Asleep(sleep) => sleep.until,
+            ThreadState::Ended => None,
         }
     }
 
@@ -106,9 +106,9 @@ impl Standing {
         ensures { result ≡ turn_of thread self }
     {
         match self {
-            Standing::Ready(since) => Some(Turn { since, thread }),
-            Standing::Asleep(_) => None,
-            Standing::Ended => None,
+            ThreadState::Ready(since) => Some(Turn { since, thread }),
+            ThreadState::Asleep(_) => None,
+            ThreadState::Ended => None,
         }
     }
 
@@ -128,16 +128,16 @@ impl Standing {
         ensures { result ≡ sleep_on word thread self }
     {
         match self {
-            Standing::Ready(_) => None,
-            Standing::Asleep(sleep) => sleep.on(word, thread),
-            Standing::Ended => None,
+            ThreadState::Ready(_) => None,
+            ThreadState::Asleep(sleep) => sleep.on(word, thread),
+            ThreadState::Ended => None,
         }
     }
 }
 
 impl Sleep {
     fn on(self, word: u64, thread: usize) -> Option<Turn>
-        ensures { result ≡ sleep_on word thread (Standing.Asleep self) }
+        ensures { result ≡ sleep_on word thread (ThreadState.Asleep self) }
     {
         if self.word == word {
             Some(Turn {

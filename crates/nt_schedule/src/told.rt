@@ -1,6 +1,6 @@
 //! What a run tells of itself, step by step.
 
-use crate::standing::{Asked, Choice};
+use crate::standing::{Choice, TurnRequest};
 
 /// A thread falls asleep on this word, to that moment or until another thread wakes it.
 #[derive(Clone, Copy, Debug)]
@@ -20,14 +20,14 @@ pub struct Woken {
 /// A thread came to a point: who goes on, and the time then.
 #[derive(Clone, Copy, Debug)]
 pub struct Turned {
-    pub asked: Asked,
+    pub asked: TurnRequest,
     pub choice: Choice,
     pub time: u64,
 }
 
 /// What a run reports of one step.
 #[derive(Clone, Copy, Debug)]
-pub enum Told {
+pub enum StepReport {
     /// There is one thread more.
     Comes,
     Sleeps(Slept),

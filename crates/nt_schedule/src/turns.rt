@@ -4,13 +4,13 @@ ghost use Rattle.std.specs.Prelude.{◌≡◌, ◌<◌, length, IfOk, OnOk, OnEr
 ghost use Rattle.std.specs.Option.{option_map};
 ghost use Rattle.nt_schedule.specs.Turns.{standing, can_go_on, deadline, waiting, sleeper, next_number, moment_of, put, let_go_on, due_goes_on, looked_round, looked, jumped, goes_by, choice_of, opening, come, fallen_asleep, woken, waits_anew, sleeps, roused, ended, passed, thread_of};
 
-use crate::standing::{Asked, Choice, Sleep, Standing, Turn, earlier, longest};
+use crate::standing::{Choice, Sleep, ThreadState, Turn, TurnRequest, earlier, longest};
 use std::alloc::{AllocError, Global};
 
 /// The threads of a run by number, and the time in units of 100 ns.
 #[derive(Debug, Drop)]
 pub struct Turns {
-    pub(crate) threads: Vec<Standing>,
+    pub(crate) threads: Vec<ThreadState>,
     pub(crate) time: u64,
     /// How often a thread could go on from then on, and how often one fell asleep.
     pub(crate) turns: u64,
@@ -30,7 +30,7 @@ impl Turns {
         }
     }
 
-    pub(crate) fn at(&self, number: usize) -> Standing
+    pub(crate) fn at(&self, number: usize) -> ThreadState
         requires { number < length self.now.threads.items }
         ensures { result ≡ standing self.now.threads.items number }
     {
@@ -80,7 +80,7 @@ impl Turns {
         first
     }
 
-    fn put(&mut self, thread: usize, standing: Standing)
+    fn put(&mut self, thread: usize, standing: ThreadState)
         ensures moment { moment_of self.new ≡ put (moment_of self.old) thread standing }
         ensures len { length self.new.threads.items ≡ length self.old.threads.items }
     {
@@ -95,7 +95,7 @@ impl Turns {
     {
         self.turns = self.turns.saturating_add(1);
         let turn = self.turns;
-        self.put(thread, Standing::Ready(turn));
+        self.put(thread, ThreadState::Ready(turn));
     }
 
     /// If its deadline has come it can go on.
@@ -158,7 +158,7 @@ impl Turns {
     ///
     /// Where another thread goes on the caller waits for its next turn. Where the clock does, the next deadline has come, and the caller asks once
     /// more.
-    pub fn turn(&mut self, asked: Asked) -> Choice
+    pub fn turn(&mut self, asked: TurnRequest) -> Choice
         ensures choice { result ≡ choice_of asked (looked (moment_of self.old)).threads }
         ensures moment { moment_of self.new ≡ goes_by asked.caller result (looked (moment_of self.old)) }
     {
@@ -176,7 +176,7 @@ impl Turns {
     {
         let thread = self.threads.len();
         let turn = self.turns.saturating_add(1);
-        self.threads.push(Standing::Ready(turn))?;
+        self.threads.push(ThreadState::Ready(turn))?;
         self.turns = turn;
         Ok(thread)
     }
@@ -189,7 +189,7 @@ impl Turns {
         let number = self.sleeps;
         self.put(
             thread,
-            Standing::Asleep(Sleep {
+            ThreadState::Asleep(Sleep {
                 word,
                 until,
                 number,
@@ -225,7 +225,7 @@ impl Turns {
     pub fn end(&mut self, thread: usize)
         ensures { moment_of self.new ≡ ended (moment_of self.old) thread }
     {
-        self.put(thread, Standing::Ended);
+        self.put(thread, ThreadState::Ended);
     }
 
     /// Time passes with a step.

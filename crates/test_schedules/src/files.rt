@@ -1,7 +1,7 @@
 //! The file of decisions that docs/SCHEDULES.md shows, with each first line.
 
 use crate::expect::{expect, expect_equal};
-use crate::refused::{Host, tell_refused};
+use crate::refused::{ScheduleHost, tell_refused};
 use nt_decisions::{Chosen, Decision, FileFault, Time, read_schedule, write_schedule};
 
 /// A file, whether its time is free, and whether it is still.
@@ -41,7 +41,7 @@ fn time(is_free: bool, is_still: bool) -> Time {
     Time { is_free, is_still }
 }
 
-fn check_read(rt: &impl Host, text: &[u8], time: Time) {
+fn check_read(rt: &impl ScheduleHost, text: &[u8], time: Time) {
     match read_schedule(rt.alloc(), text) {
         Ok(schedule) => {
             expect_equal(rt, schedule.time, time, "how its time goes");
@@ -65,7 +65,7 @@ fn the_file_of_the_page_is_read(rt: HostRuntime) {
     }
 }
 
-fn check_written(rt: &impl Host, text: &[u8], time: Time) {
+fn check_written(rt: &impl ScheduleHost, text: &[u8], time: Time) {
     match write_schedule(rt.alloc(), time, DECISIONS) {
         Ok(written) => expect(rt, written.as_slice() == text, "its text"),
         Err(_) => tell_refused(rt, "a text"),
@@ -91,7 +91,7 @@ const FAULTS: &[(&[u8], FileFault)] = &[
     (b"; ntwin-schedule 1\n1 12 t2\n", FileFault::Line),
 ];
 
-fn check_fault(rt: &impl Host, text: &[u8], fault: FileFault) {
+fn check_fault(rt: &impl ScheduleHost, text: &[u8], fault: FileFault) {
     match read_schedule(rt.alloc(), text) {
         Ok(_) => expect(rt, false, "the text is refused"),
         Err(why) => {

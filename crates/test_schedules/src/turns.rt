@@ -1,12 +1,12 @@
 //! Two threads that sleep on one word, the first to moment 50.
 
 use crate::expect::expect_equal;
-use crate::refused::{Host, tell_refused};
-use nt_schedule::{Asked, Choice, Point, Turns};
+use crate::refused::{ScheduleHost, tell_refused};
+use nt_schedule::{Choice, Point, TurnRequest, Turns};
 
 /// The thread comes to the point, and what is usual goes on.
-fn check(rt: &impl Host, turns: &mut Turns, point: Point, caller: usize, goes_on: Choice) {
-    let asked = Asked {
+fn check(rt: &impl ScheduleHost, turns: &mut Turns, point: Point, caller: usize, goes_on: Choice) {
+    let asked = TurnRequest {
         point,
         caller,
         wanted: None,
@@ -15,7 +15,7 @@ fn check(rt: &impl Host, turns: &mut Turns, point: Point, caller: usize, goes_on
     expect_equal(rt, turns.turn(asked), goes_on, "who goes on");
 }
 
-fn play(rt: &impl Host, turns: &mut Turns) {
+fn play(rt: &impl ScheduleHost, turns: &mut Turns) {
     check(rt, turns, Point::Call, 0, Choice::Thread(0));
     check(rt, turns, Point::Yield, 0, Choice::Thread(1));
     turns.fall_asleep(0, 7, Some(50));
