@@ -5,59 +5,59 @@ use Rattle.nt_protocols.specs.Lock as Lock
 use Rattle.nt_protocols.specs.Threads.{put}
 use Rattle.nt_lock_traces.specs.declared.lock.LockWord.{LockWord}
 use Rattle.nt_lock_traces.specs.declared.lock.Buffer.{Buffer}
-use Rattle.nt_lock_traces.specs.declared.lock.Place.{Place}
+use Rattle.nt_lock_traces.specs.declared.lock.LockPlace.{LockPlace}
 use Rattle.nt_lock_traces.specs.declared.lock.Seat.{Seat}
 use Rattle.nt_lock_traces.specs.declared.lock_run.LockRun.{LockRun}
 use Rattle.nt_lock_traces.specs.LockTrace.{state_of, seat_of, outside, place_of, lock_of, buffer_of}
 
 -- the words back from the protocol's, so that two that stand for the same are the same
-abbrev place_back : Lock.Place → Place
-place_back Lock.Place.Out = Place.Out
-place_back Lock.Place.ToStore = Place.ToStore
-place_back Lock.Place.ToCheck = Place.ToCheck
-place_back Lock.Place.Inside = Place.Inside
-place_back Lock.Place.ToStepBack = Place.ToStepBack
-place_back Lock.Place.ToReload = Place.ToReload
-place_back Lock.Place.ToWakeRevoker = Place.ToWakeRevoker
-place_back Lock.Place.ToTake = Place.ToTake
-place_back Lock.Place.ToMark = Place.ToMark
-place_back Lock.Place.ToPay = Place.ToPay
-place_back Lock.Place.ToSleep = Place.ToSleep
-place_back Lock.Place.Asleep = Place.Asleep
-place_back (Lock.Place.ToBar n once) = Place.ToBar n once
-place_back (Lock.Place.ToLook n once) = Place.ToLook n once
-place_back (Lock.Place.ToSleepOn n) = Place.ToSleepOn n
-place_back (Lock.Place.AsleepOn n) = Place.AsleepOn n
-place_back (Lock.Place.ToPutBack n) = Place.ToPutBack n
-place_back Lock.Place.Owner = Place.Owner
-place_back Lock.Place.ToFavour = Place.ToFavour
-place_back Lock.Place.ToUnset = Place.ToUnset
-place_back Lock.Place.ToWake = Place.ToWake
+abbrev place_back : Lock.Place → LockPlace
+place_back Lock.Place.Out = LockPlace.Out
+place_back Lock.Place.ToStore = LockPlace.ToStore
+place_back Lock.Place.ToCheck = LockPlace.ToCheck
+place_back Lock.Place.Inside = LockPlace.Inside
+place_back Lock.Place.ToStepBack = LockPlace.ToStepBack
+place_back Lock.Place.ToReload = LockPlace.ToReload
+place_back Lock.Place.ToWakeRevoker = LockPlace.ToWakeRevoker
+place_back Lock.Place.ToTake = LockPlace.ToTake
+place_back Lock.Place.ToMark = LockPlace.ToMark
+place_back Lock.Place.ToPay = LockPlace.ToPay
+place_back Lock.Place.ToSleep = LockPlace.ToSleep
+place_back Lock.Place.Asleep = LockPlace.Asleep
+place_back (Lock.Place.ToBar n once) = LockPlace.ToBar n once
+place_back (Lock.Place.ToLook n once) = LockPlace.ToLook n once
+place_back (Lock.Place.ToSleepOn n) = LockPlace.ToSleepOn n
+place_back (Lock.Place.AsleepOn n) = LockPlace.AsleepOn n
+place_back (Lock.Place.ToPutBack n) = LockPlace.ToPutBack n
+place_back Lock.Place.Owner = LockPlace.Owner
+place_back Lock.Place.ToFavour = LockPlace.ToFavour
+place_back Lock.Place.ToUnset = LockPlace.ToUnset
+place_back Lock.Place.ToWake = LockPlace.ToWake
 
-place_is : (p : Place) → place_back (place_of p) ≡ p
-place_is Place.Out = refl
-place_is Place.ToStore = refl
-place_is Place.ToCheck = refl
-place_is Place.Inside = refl
-place_is Place.ToStepBack = refl
-place_is Place.ToReload = refl
-place_is Place.ToWakeRevoker = refl
-place_is Place.ToTake = refl
-place_is Place.ToMark = refl
-place_is Place.ToPay = refl
-place_is Place.ToSleep = refl
-place_is Place.Asleep = refl
-place_is (Place.ToBar n once) = refl
-place_is (Place.ToLook n once) = refl
-place_is (Place.ToSleepOn n) = refl
-place_is (Place.AsleepOn n) = refl
-place_is (Place.ToPutBack n) = refl
-place_is Place.Owner = refl
-place_is Place.ToFavour = refl
-place_is Place.ToUnset = refl
-place_is Place.ToWake = refl
+place_is : (p : LockPlace) → place_back (place_of p) ≡ p
+place_is LockPlace.Out = refl
+place_is LockPlace.ToStore = refl
+place_is LockPlace.ToCheck = refl
+place_is LockPlace.Inside = refl
+place_is LockPlace.ToStepBack = refl
+place_is LockPlace.ToReload = refl
+place_is LockPlace.ToWakeRevoker = refl
+place_is LockPlace.ToTake = refl
+place_is LockPlace.ToMark = refl
+place_is LockPlace.ToPay = refl
+place_is LockPlace.ToSleep = refl
+place_is LockPlace.Asleep = refl
+place_is (LockPlace.ToBar n once) = refl
+place_is (LockPlace.ToLook n once) = refl
+place_is (LockPlace.ToSleepOn n) = refl
+place_is (LockPlace.AsleepOn n) = refl
+place_is (LockPlace.ToPutBack n) = refl
+place_is LockPlace.Owner = refl
+place_is LockPlace.ToFavour = refl
+place_is LockPlace.ToUnset = refl
+place_is LockPlace.ToWake = refl
 
-pub same_place : (p q : Place) → place_of p ≡ place_of q → p ≡ q
+pub same_place : (p q : LockPlace) → place_of p ≡ place_of q → p ≡ q
 same_place p q e = sym (place_is p) ∙ (ap place_back e ∙ place_is q)
 
 abbrev lock_back : Lock.Lock → LockWord

@@ -4,7 +4,7 @@ use Rattle.nt_protocols.specs.Lock as Lock
 use Rattle.nt_protocols.specs.Threads.{put, Step}
 use Rattle.nt_lock_traces.specs.declared.lock.LockWord.{LockWord}
 use Rattle.nt_lock_traces.specs.declared.lock.Buffer.{Buffer}
-use Rattle.nt_lock_traces.specs.declared.lock.Place.{Place}
+use Rattle.nt_lock_traces.specs.declared.lock.LockPlace.{LockPlace}
 use Rattle.nt_lock_traces.specs.declared.lock.Frame.{Frame}
 use Rattle.nt_lock_traces.specs.declared.lock.Seat.{Seat}
 use Rattle.nt_lock_traces.specs.declared.lock_kinds.LockKind.{LockKind}
@@ -30,28 +30,28 @@ abbrev pub buffer_of : Buffer → Lock.Buffer
 buffer_of Buffer.Empty = Lock.Buffer.Empty
 buffer_of (Buffer.Holds inside) = Lock.Buffer.Holds inside
 
-abbrev pub place_of : Place → Lock.Place
-place_of Place.Out = Lock.Place.Out
-place_of Place.ToStore = Lock.Place.ToStore
-place_of Place.ToCheck = Lock.Place.ToCheck
-place_of Place.Inside = Lock.Place.Inside
-place_of Place.ToStepBack = Lock.Place.ToStepBack
-place_of Place.ToReload = Lock.Place.ToReload
-place_of Place.ToWakeRevoker = Lock.Place.ToWakeRevoker
-place_of Place.ToTake = Lock.Place.ToTake
-place_of Place.ToMark = Lock.Place.ToMark
-place_of Place.ToPay = Lock.Place.ToPay
-place_of Place.ToSleep = Lock.Place.ToSleep
-place_of Place.Asleep = Lock.Place.Asleep
-place_of (Place.ToBar n once) = Lock.Place.ToBar n once
-place_of (Place.ToLook n once) = Lock.Place.ToLook n once
-place_of (Place.ToSleepOn n) = Lock.Place.ToSleepOn n
-place_of (Place.AsleepOn n) = Lock.Place.AsleepOn n
-place_of (Place.ToPutBack n) = Lock.Place.ToPutBack n
-place_of Place.Owner = Lock.Place.Owner
-place_of Place.ToFavour = Lock.Place.ToFavour
-place_of Place.ToUnset = Lock.Place.ToUnset
-place_of Place.ToWake = Lock.Place.ToWake
+abbrev pub place_of : LockPlace → Lock.Place
+place_of LockPlace.Out = Lock.Place.Out
+place_of LockPlace.ToStore = Lock.Place.ToStore
+place_of LockPlace.ToCheck = Lock.Place.ToCheck
+place_of LockPlace.Inside = Lock.Place.Inside
+place_of LockPlace.ToStepBack = Lock.Place.ToStepBack
+place_of LockPlace.ToReload = Lock.Place.ToReload
+place_of LockPlace.ToWakeRevoker = Lock.Place.ToWakeRevoker
+place_of LockPlace.ToTake = Lock.Place.ToTake
+place_of LockPlace.ToMark = Lock.Place.ToMark
+place_of LockPlace.ToPay = Lock.Place.ToPay
+place_of LockPlace.ToSleep = Lock.Place.ToSleep
+place_of LockPlace.Asleep = Lock.Place.Asleep
+place_of (LockPlace.ToBar n once) = Lock.Place.ToBar n once
+place_of (LockPlace.ToLook n once) = Lock.Place.ToLook n once
+place_of (LockPlace.ToSleepOn n) = Lock.Place.ToSleepOn n
+place_of (LockPlace.AsleepOn n) = Lock.Place.AsleepOn n
+place_of (LockPlace.ToPutBack n) = Lock.Place.ToPutBack n
+place_of LockPlace.Owner = Lock.Place.Owner
+place_of LockPlace.ToFavour = Lock.Place.ToFavour
+place_of LockPlace.ToUnset = Lock.Place.ToUnset
+place_of LockPlace.ToWake = Lock.Place.ToWake
 
 -- where a handler has interrupted its thread, and what handlers have
 abbrev pub frame_of : Frame → Lock.Frame
@@ -72,7 +72,7 @@ abbrev pub seat_of : Seat → Lock.Seat
 seat_of a = record { place = place_of a.place; inside = a.inside; buffer = buffer_of a.buffer; under = under_of a.under }
 
 abbrev pub outside : Seat
-outside = record { place = Place.Out; inside = false; buffer = Buffer.Empty; under = None }
+outside = record { place = LockPlace.Out; inside = false; buffer = Buffer.Empty; under = None }
 
 -- the protocol's state to which the trace has led: threads beyond the list have not asked
 abbrev pub state_of : LockRun → Lock.State

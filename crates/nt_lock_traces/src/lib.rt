@@ -11,7 +11,7 @@ mod lock_run;
 mod lock_steps;
 mod lock_test;
 
-pub use lock::{Buffer, Frame, LockEvent, LockWord, Place, Seat};
+pub use lock::{Buffer, Frame, LockEvent, LockPlace, LockWord, Seat};
 pub use lock_kinds::{
     ArrivingStep, FavouredStep, HandlingStep, LockKind, OwningStep, RevokingStep, SleepingStep,
     TakingStep,

@@ -20,7 +20,7 @@ pub enum Buffer {
 
 /// Where a thread is.
 #[derive(Clone, Copy, Debug, PartialEq, Eq)]
-pub enum Place {
+pub enum LockPlace {
     Out,
     ToStore,
     ToCheck,
@@ -59,7 +59,7 @@ pub enum Frame {
 /// What there is of one thread. A handler of signals may have interrupted it, and no other that handler.
 #[derive(Clone, Copy, Debug, PartialEq, Eq)]
 pub struct Seat {
-    pub place: Place,
+    pub place: LockPlace,
     pub inside: bool,
     pub buffer: Buffer,
     pub under: Option<Frame>,

@@ -6,7 +6,7 @@ ghost use Rattle.nt_protocols.specs.Threads.{put};
 ghost use Rattle.nt_lock_traces.specs.LockMoves as Moves;
 ghost use Rattle.nt_lock_traces.specs.LockTrace.{arrives, frame_of, state_of, seat_of, place_of, lock_of, under_of, Reads, Holds};
 
-use crate::lock::{Buffer, Frame, LockWord, Place, Seat};
+use crate::lock::{Buffer, Frame, LockPlace, LockWord, Seat};
 use crate::lock_test::LockTest;
 
 /// The lock and its threads, as the events that were read have led to them.
@@ -17,22 +17,22 @@ pub struct LockRun {
 }
 
 /// Where a thread is that a handler has interrupted.
-fn frame_place(frame: Frame) -> Place
+fn frame_place(frame: Frame) -> LockPlace
     ensures { place_of result ≡ Lock.frame_place (frame_of frame) }
 {
     match frame {
-        Frame::AtStore => Place::ToStore,
-        Frame::AtReload => Place::ToReload,
-        Frame::AtWakeRevoker => Place::ToWakeRevoker,
-        Frame::AtMark => Place::ToMark,
-        Frame::AtPay => Place::ToPay,
-        Frame::AtSleep => Place::ToSleep,
-        Frame::AtWake => Place::ToWake,
+        Frame::AtStore => LockPlace::ToStore,
+        Frame::AtReload => LockPlace::ToReload,
+        Frame::AtWakeRevoker => LockPlace::ToWakeRevoker,
+        Frame::AtMark => LockPlace::ToMark,
+        Frame::AtPay => LockPlace::ToPay,
+        Frame::AtSleep => LockPlace::ToSleep,
+        Frame::AtWake => LockPlace::ToWake,
     }
 }
 
 impl LockRun {
-    fn is_at(&self, t: usize, place: Place) -> bool
+    fn is_at(&self, t: usize, place: LockPlace) -> bool
         requires { t < length self.now.seats.items }
         ensures { IsTrue result ↔ Lock.IsAt (state_of self.now) t (place_of place) }
     {
@@ -58,7 +58,7 @@ impl LockRun {
     }
 
     /// No thread is at this place.
-    fn nobody_is_at(&self, place: Place) -> bool
+    fn nobody_is_at(&self, place: LockPlace) -> bool
         requires { place_of place ≢ Lock.Place.Out }
         ensures none { IsTrue result → (u : ℕ) → Lock.place_of (state_of self.now) u ≢ place_of place }
         ensures some { IsFalse result → (u : ℕ) × (Lock.place_of (state_of self.now) u ≡ place_of place) }
@@ -81,7 +81,7 @@ impl LockRun {
         self.seats[t] = seat;
     }
 
-    fn goes(&mut self, t: usize, place: Place)
+    fn goes(&mut self, t: usize, place: LockPlace)
         requires { t < length self.old.seats.items }
         ensures state { state_of self.new ≡ Lock.goes (state_of self.old) t (place_of place) }
         ensures len { length self.new.seats.items ≡ length self.old.seats.items }
@@ -90,7 +90,7 @@ impl LockRun {
         self.set(t, Seat { place, ..seat });
     }
 
-    fn makes(&mut self, t: usize, lock: LockWord, place: Place)
+    fn makes(&mut self, t: usize, lock: LockWord, place: LockPlace)
         requires { t < length self.old.seats.items }
         ensures state { state_of self.new ≡ Lock.makes (state_of self.old) t (lock_of lock) (place_of place) }
         ensures len { length self.new.seats.items ≡ length self.old.seats.items }
@@ -99,7 +99,7 @@ impl LockRun {
         self.goes(t, place);
     }
 
-    fn stores(&mut self, t: usize, inside: bool, place: Place)
+    fn stores(&mut self, t: usize, inside: bool, place: LockPlace)
         requires { t < length self.old.seats.items }
         ensures state { state_of self.new ≡ Lock.stores (state_of self.old) t inside (place_of place) }
         ensures len { length self.new.seats.items ≡ length self.old.seats.items }
@@ -124,7 +124,7 @@ impl LockRun {
         self.set(
             t,
             Seat {
-                place: Place::ToReload,
+                place: LockPlace::ToReload,
                 inside: false,
                 ..seat
             },
@@ -147,7 +147,7 @@ impl LockRun {
         );
     }
 
-    fn wakes(&mut self, t: usize, u: usize, then: Place, to: Place)
+    fn wakes(&mut self, t: usize, u: usize, then: LockPlace, to: LockPlace)
         requires t { t < length self.old.seats.items }
         requires u { u < length self.old.seats.items }
         ensures state { state_of self.new ≡ Lock.wakes (state_of self.old) t u (place_of then) (place_of to) }
@@ -158,7 +158,7 @@ impl LockRun {
     }
 
     /// Its handler begins or ends: it is there, and has interrupted this.
-    fn frames(&mut self, t: usize, place: Place, under: Option<Frame>)
+    fn frames(&mut self, t: usize, place: LockPlace, under: Option<Frame>)
         requires { t < length self.old.seats.items }
         ensures state { state_of self.new ≡ Lock.frames (state_of self.old) t (place_of place) (under_of under) }
         ensures len { length self.new.seats.items ≡ length self.old.seats.items }
@@ -175,18 +175,18 @@ impl LockRun {
     }
 
     /// Where a thread is that has given the lock back.
-    fn given(&self) -> Place
+    fn given(&self) -> LockPlace
         ensures { place_of result ≡ Lock.given (state_of self.now).lock }
     {
         if self.lock == LockWord::Wanted {
-            Place::ToWake
+            LockPlace::ToWake
         } else {
-            Place::Out
+            LockPlace::Out
         }
     }
 
     /// From one place to another.
-    pub(crate) fn walk(&mut self, t: usize, from: Place, to: Place) -> bool
+    pub(crate) fn walk(&mut self, t: usize, from: LockPlace, to: LockPlace) -> bool
         requires { t < length self.old.seats.items }
         ensures { Reads self.old (Moves.walk (state_of self.old) t from to) self.new result }
     {
@@ -198,7 +198,13 @@ impl LockRun {
     }
 
     /// From one place to another, where the lock passes this test.
-    pub(crate) fn walk_if(&mut self, t: usize, from: Place, test: LockTest, to: Place) -> bool
+    pub(crate) fn walk_if(
+        &mut self,
+        t: usize,
+        from: LockPlace,
+        test: LockTest,
+        to: LockPlace,
+    ) -> bool
         requires { t < length self.old.seats.items }
         ensures { Reads self.old (Moves.walk_if (state_of self.old) t from test to) self.new result }
     {
@@ -210,7 +216,7 @@ impl LockRun {
     }
 
     /// From one place to another, where the lock passes this test and the thread's plain stores have arrived.
-    pub(crate) fn miss(&mut self, t: usize, from: Place, test: LockTest, to: Place) -> bool
+    pub(crate) fn miss(&mut self, t: usize, from: LockPlace, test: LockTest, to: LockPlace) -> bool
         requires { t < length self.old.seats.items }
         ensures { Reads self.old (Moves.miss (state_of self.old) t from test to) self.new result }
     {
@@ -225,10 +231,10 @@ impl LockRun {
     pub(crate) fn make(
         &mut self,
         t: usize,
-        from: Place,
+        from: LockPlace,
         test: LockTest,
         lock: LockWord,
-        to: Place,
+        to: LockPlace,
     ) -> bool
         requires { t < length self.old.seats.items }
         ensures { Reads self.old (Moves.make (state_of self.old) t from test lock to) self.new result }
@@ -241,7 +247,7 @@ impl LockRun {
     }
 
     /// Makes the lock so, and wakes one if it was wanted.
-    pub(crate) fn give(&mut self, t: usize, from: Place, lock: LockWord) -> bool
+    pub(crate) fn give(&mut self, t: usize, from: LockPlace, lock: LockWord) -> bool
         requires { t < length self.old.seats.items }
         ensures { Reads self.old (Moves.give (state_of self.old) t from lock) self.new result }
     {
@@ -254,7 +260,7 @@ impl LockRun {
     }
 
     /// Stores to `inside` by a plain store.
-    pub(crate) fn store(&mut self, t: usize, from: Place, inside: bool, to: Place) -> bool
+    pub(crate) fn store(&mut self, t: usize, from: LockPlace, inside: bool, to: LockPlace) -> bool
         requires { t < length self.old.seats.items }
         ensures { Reads self.old (Moves.store (state_of self.old) t from inside to) self.new result }
     {
@@ -266,7 +272,7 @@ impl LockRun {
     }
 
     /// Clears `inside` by an exchange.
-    pub(crate) fn clear(&mut self, t: usize, from: Place) -> bool
+    pub(crate) fn clear(&mut self, t: usize, from: LockPlace) -> bool
         requires { t < length self.old.seats.items }
         ensures { Reads self.old (Moves.clear (state_of self.old) t from) self.new result }
     {
@@ -278,7 +284,14 @@ impl LockRun {
     }
 
     /// Looks at the `inside` of n, which is so.
-    pub(crate) fn look(&mut self, t: usize, from: Place, n: usize, inside: bool, to: Place) -> bool
+    pub(crate) fn look(
+        &mut self,
+        t: usize,
+        from: LockPlace,
+        n: usize,
+        inside: bool,
+        to: LockPlace,
+    ) -> bool
         requires t { t < length self.old.seats.items }
         requires n { n < length self.old.seats.items }
         ensures { Reads self.old (Moves.look (state_of self.old) t from n inside to) self.new result }
@@ -296,9 +309,9 @@ impl LockRun {
         requires n { n < length self.old.seats.items }
         ensures { Reads self.old (Moves.pass (state_of self.old) t n once) self.new result }
     {
-        let comes = self.is_at(t, Place::ToBar(n, once)) && self.is_drained(n);
+        let comes = self.is_at(t, LockPlace::ToBar(n, once)) && self.is_drained(n);
         if comes {
-            self.goes(t, Place::ToLook(n, once));
+            self.goes(t, LockPlace::ToLook(n, once));
         }
         comes
     }
@@ -307,11 +320,11 @@ impl LockRun {
     pub(crate) fn wake(
         &mut self,
         t: usize,
-        from: Place,
+        from: LockPlace,
         u: usize,
-        asleep: Place,
-        then: Place,
-        to: Place,
+        asleep: LockPlace,
+        then: LockPlace,
+        to: LockPlace,
     ) -> bool
         requires t { t < length self.old.seats.items }
         requires u { u < length self.old.seats.items }
@@ -325,7 +338,13 @@ impl LockRun {
     }
 
     /// Finds nobody to wake.
-    pub(crate) fn wake_nobody(&mut self, t: usize, from: Place, asleep: Place, to: Place) -> bool
+    pub(crate) fn wake_nobody(
+        &mut self,
+        t: usize,
+        from: LockPlace,
+        asleep: LockPlace,
+        to: LockPlace,
+    ) -> bool
         requires t { t < length self.old.seats.items }
         requires asleep { place_of asleep ≢ Lock.Place.Out }
         ensures { Reads self.old (Moves.wake_nobody (state_of self.old) t from asleep to) self.new result }
@@ -373,7 +392,7 @@ impl LockRun {
     {
         let comes = self.is_at(t, frame_place(frame));
         if comes {
-            self.frames(t, Place::Out, Some(frame));
+            self.frames(t, LockPlace::Out, Some(frame));
         }
         comes
     }
@@ -383,7 +402,7 @@ impl LockRun {
         requires { t < length self.old.seats.items }
         ensures { Reads self.old (Lock.step (state_of self.old) (Lock.Event.Resumes t (frame_of frame) [])) self.new result }
     {
-        let comes = self.is_at(t, Place::Out) && self.is_under(t, frame);
+        let comes = self.is_at(t, LockPlace::Out) && self.is_under(t, frame);
         if comes {
             self.frames(t, frame_place(frame), None);
         }

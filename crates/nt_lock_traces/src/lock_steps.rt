@@ -5,13 +5,13 @@ ghost use Rattle.nt_protocols.specs.Lock as Lock;
 ghost use Rattle.nt_lock_traces.specs.declared.lock_kinds.LockKind.{LockKind};
 ghost use Rattle.nt_lock_traces.specs.LockTrace.{state_of, place_of, step, arriving_event, favoured_event, handling_event, owning_event, revoking_event, sleeping_event, taking_event, HasRoom, IsWithin, Reads, RoomFor};
 
-use crate::lock::LockWord::{Favours, Free, Taken, Wanted};
-use crate::lock::Place::{
+use crate::lock::LockPlace::{
     Asleep, AsleepOn, Inside, Out, Owner, ToBar, ToCheck, ToFavour, ToLook, ToMark, ToPay,
     ToPutBack, ToReload, ToSleep, ToSleepOn, ToStepBack, ToStore, ToTake, ToUnset, ToWake,
     ToWakeRevoker,
 };
-use crate::lock::{Buffer, LockEvent, Place, Seat};
+use crate::lock::LockWord::{Favours, Free, Taken, Wanted};
+use crate::lock::{Buffer, LockEvent, LockPlace, Seat};
 use crate::lock_kinds::{
     ArrivingStep, FavouredStep, HandlingStep, LockKind, OwningStep, RevokingStep, SleepingStep,
     TakingStep,
@@ -29,7 +29,7 @@ const OUTSIDE: Seat = Seat {
 };
 
 /// Where a thread is that has revoked n's favour: of its own it needs no barrier.
-fn revoking(t: usize, n: usize, once: bool) -> Place
+fn revoking(t: usize, n: usize, once: bool) -> LockPlace
     ensures { place_of result ≡ Lock.revoking (n == t) n once }
 {
     if n == t {

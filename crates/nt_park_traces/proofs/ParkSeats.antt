@@ -8,7 +8,7 @@ use Rattle.nt_protocols.specs.Threads.{put}
 use Rattle.nt_protocols.proofs.Putting.{put_kept, set_is}
 use Rattle.nt_park_traces.specs.declared.park.ParkPlace.{ParkPlace}
 use Rattle.nt_park_traces.specs.declared.park.ParkSeat.{ParkSeat}
-use Rattle.nt_park_traces.specs.declared.park.Standing.{Standing}
+use Rattle.nt_park_traces.specs.declared.park.ParkStanding.{ParkStanding}
 use Rattle.nt_park_traces.specs.declared.park_run.ParkRun.{ParkRun}
 use Rattle.nt_park_traces.specs.ParkTrace.{owes_of, outside, place_of, seat_of, seats_of, standing_of, state_of, uncounted, uncounted_seat}
 
@@ -53,17 +53,17 @@ place_is ParkPlace.Waking = refl
 pub same_place : (p q : ParkPlace) → place_of p ≡ place_of q → p ≡ q
 same_place p q e = sym (place_is p) ∙ (ap place_back e ∙ place_is q)
 
-abbrev standing_back : Protocol.Standing → Standing
-standing_back Protocol.Standing.Absent = Standing.Absent
-standing_back Protocol.Standing.Listed = Standing.Listed
-standing_back (Protocol.Standing.Taken t) = Standing.Taken t
+abbrev standing_back : Protocol.Standing → ParkStanding
+standing_back Protocol.Standing.Absent = ParkStanding.Absent
+standing_back Protocol.Standing.Listed = ParkStanding.Listed
+standing_back (Protocol.Standing.Taken t) = ParkStanding.Taken t
 
-standing_is : (d : Standing) → standing_back (standing_of d) ≡ d
-standing_is Standing.Absent = refl
-standing_is Standing.Listed = refl
-standing_is (Standing.Taken t) = refl
+standing_is : (d : ParkStanding) → standing_back (standing_of d) ≡ d
+standing_is ParkStanding.Absent = refl
+standing_is ParkStanding.Listed = refl
+standing_is (ParkStanding.Taken t) = refl
 
-pub same_standing : (d e : Standing) → standing_of d ≡ standing_of e → d ≡ e
+pub same_standing : (d e : ParkStanding) → standing_of d ≡ standing_of e → d ≡ e
 same_standing d e h = sym (standing_is d) ∙ (ap standing_back h ∙ standing_is e)
 
 -- ---- one thread changes

@@ -4,7 +4,7 @@ use Rattle.std.specs.Prelude.{◌≡◌, ◌↔◌, IsTrue, IsFalse, ℕ, ◌<�
 use Rattle.nt_protocols.specs.Parking as Protocol
 use Rattle.nt_protocols.specs.Threads.{Step, when, Can}
 use Rattle.nt_park_traces.specs.declared.park.TheConstants.{MOST_PARKED}
-use Rattle.nt_park_traces.specs.declared.park.Standing.{Standing}
+use Rattle.nt_park_traces.specs.declared.park.ParkStanding.{ParkStanding}
 use Rattle.nt_park_traces.specs.declared.park.ParkPlace.{ParkPlace}
 use Rattle.nt_park_traces.specs.declared.park.ParkSeat.{ParkSeat}
 use Rattle.nt_park_traces.specs.declared.park.ParkKind.{ParkKind}
@@ -12,10 +12,10 @@ use Rattle.nt_park_traces.specs.declared.park.ParkEvent.{ParkEvent}
 use Rattle.nt_park_traces.specs.declared.park_run.ParkRun.{ParkRun}
 
 -- where a thread stands, and a place, as the protocol has them
-abbrev pub standing_of : Standing → Protocol.Standing
-standing_of Standing.Absent = Protocol.Standing.Absent
-standing_of Standing.Listed = Protocol.Standing.Listed
-standing_of (Standing.Taken t) = Protocol.Standing.Taken t
+abbrev pub standing_of : ParkStanding → Protocol.Standing
+standing_of ParkStanding.Absent = Protocol.Standing.Absent
+standing_of ParkStanding.Listed = Protocol.Standing.Listed
+standing_of (ParkStanding.Taken t) = Protocol.Standing.Taken t
 
 abbrev pub place_of : ParkPlace → Protocol.Place
 place_of ParkPlace.Out = Protocol.Place.Out
@@ -47,7 +47,7 @@ seat_of a = record {
 }
 
 abbrev pub outside : ParkSeat
-outside = record { place = ParkPlace.Out; parked = false; standing = Standing.Absent; expected = 0; owes = [] }
+outside = record { place = ParkPlace.Out; parked = false; standing = ParkStanding.Absent; expected = 0; owes = [] }
 
 -- the threads of this list, and to whom each owes a wake-up
 abbrev pub seats_of : List ParkSeat → ℕ → Protocol.Seat

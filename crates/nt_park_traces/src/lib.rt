@@ -11,5 +11,5 @@ mod park_run;
 mod park_steps;
 
 pub use law::counts_tell_nothing;
-pub use park::{MOST_PARKED, ParkEvent, ParkKind, ParkPlace, ParkSeat, Standing};
+pub use park::{MOST_PARKED, ParkEvent, ParkKind, ParkPlace, ParkSeat, ParkStanding};
 pub use park_run::ParkRun;

@@ -5,7 +5,7 @@ pub const MOST_PARKED: usize = 64;
 
 /// Whether a thread stands in the list, or who has taken it off.
 #[derive(Clone, Copy, Debug, PartialEq, Eq)]
-pub enum Standing {
+pub enum ParkStanding {
     Absent,
     Listed,
     Taken(usize),
@@ -37,7 +37,7 @@ pub enum ParkPlace {
 pub struct ParkSeat {
     pub place: ParkPlace,
     pub parked: bool,
-    pub standing: Standing,
+    pub standing: ParkStanding,
     pub expected: usize,
     pub owes: [bool; MOST_PARKED],
 }

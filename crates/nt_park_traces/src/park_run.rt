@@ -7,7 +7,7 @@ ghost use Rattle.nt_park_traces.specs.declared.park.TheConstants.{MOST_PARKED};
 ghost use Rattle.nt_park_traces.specs.ParkMoves.{HasUnparked, NobodyCounts};
 ghost use Rattle.nt_park_traces.specs.ParkTrace.{outside, place_of, seat_of, standing_of, state_of, uncounted, uncounted_seat};
 
-use crate::park::{ParkPlace, ParkSeat, Standing};
+use crate::park::{ParkPlace, ParkSeat, ParkStanding};
 
 /// The value, the latch and the threads, as the events that were read have led to them.
 #[derive(Drop)]
@@ -60,7 +60,7 @@ fn read_again(seat: ParkSeat) -> ParkSeat
         ParkSeat {
             place: ParkPlace::GivesToGo,
             parked: false,
-            standing: Standing::Absent,
+            standing: ParkStanding::Absent,
             ..seat
         }
     } else {
@@ -72,11 +72,11 @@ fn read_again(seat: ParkSeat) -> ParkSeat
 }
 
 /// Whether a thread is counted that stands there.
-fn is_counted(standing: Standing, place: ParkPlace) -> bool
+fn is_counted(standing: ParkStanding, place: ParkPlace) -> bool
     ensures { result ≡ Protocol.is_counted (standing_of standing) (place_of place) }
 {
     match standing {
-        Standing::Listed => true,
+        ParkStanding::Listed => true,
         _ => matches!(
             place,
             ParkPlace::TakesToLook | ParkPlace::ToLook | ParkPlace::ToPark
@@ -113,7 +113,7 @@ impl ParkRun {
         self.seat(t).place == place
     }
 
-    pub(crate) fn stands(&self, t: usize, standing: Standing) -> bool
+    pub(crate) fn stands(&self, t: usize, standing: ParkStanding) -> bool
         requires { t < length self.now.seats.items }
         ensures { IsTrue result ↔ (((state_of self.now).seats t).standing ≡ standing_of standing) }
     {
@@ -165,10 +165,10 @@ impl ParkRun {
         ensures some { IsFalse result → HasUnparked (state_of self.now) t all → ⊥ }
     {
         for seat in &self.seats {
-            if seat.standing == Standing::Taken(t) {
+            if seat.standing == ParkStanding::Taken(t) {
                 return false;
             }
-            if all && seat.standing == Standing::Listed {
+            if all && seat.standing == ParkStanding::Listed {
                 return false;
             }
         }
@@ -265,7 +265,7 @@ impl ParkRun {
             ParkSeat {
                 place: ParkPlace::GivesToSleep,
                 parked: true,
-                standing: Standing::Listed,
+                standing: ParkStanding::Listed,
                 ..seat
             },
         );
@@ -308,7 +308,7 @@ impl ParkRun {
         self.becomes(
             u,
             ParkSeat {
-                standing: Standing::Taken(t),
+                standing: ParkStanding::Taken(t),
                 ..seat
             },
         );
@@ -326,7 +326,7 @@ impl ParkRun {
             u,
             ParkSeat {
                 parked: false,
-                standing: Standing::Absent,
+                standing: ParkStanding::Absent,
                 ..seat
             },
         );

@@ -10,7 +10,7 @@ use crate::park::ParkPlace::{
     Asleep, GivesToGo, GivesToSleep, GivesToWake, Out, TakesToLeave, TakesToLook, TakesToUnpark,
     ToCheck, ToLeave, ToLoad, ToLook, ToPark, ToSleep, Unparking, Waking,
 };
-use crate::park::{MOST_PARKED, ParkEvent, ParkKind, ParkPlace, ParkSeat, Standing};
+use crate::park::{MOST_PARKED, ParkEvent, ParkKind, ParkPlace, ParkSeat, ParkStanding};
 use crate::park_run::ParkRun;
 use std::alloc::{AllocError, Global};
 
@@ -18,7 +18,7 @@ use std::alloc::{AllocError, Global};
 const OUTSIDE: ParkSeat = ParkSeat {
     place: Out,
     parked: false,
-    standing: Standing::Absent,
+    standing: ParkStanding::Absent,
     expected: 0,
     owes: [false; MOST_PARKED],
 };
@@ -185,7 +185,7 @@ impl ParkRun {
         requires u { u < length self.old.seats.items }
         ensures { Reads self.old (step (state_of self.old) (Protocol.Event.TakesOff t u all)) self.new result }
     {
-        let comes = self.is_at(t, Unparking(all)) && self.stands(u, Standing::Listed);
+        let comes = self.is_at(t, Unparking(all)) && self.stands(u, ParkStanding::Listed);
         if comes {
             self.takes_off(t, u);
         }
@@ -198,7 +198,7 @@ impl ParkRun {
         requires most { u < MOST_PARKED }
         ensures { Reads self.old (step (state_of self.old) (Protocol.Event.Unparks t u)) self.new result }
     {
-        let comes = self.stands(u, Standing::Taken(t));
+        let comes = self.stands(u, ParkStanding::Taken(t));
         if comes {
             self.unparks(t, u);
         }

@@ -12,12 +12,12 @@ use Rattle.nt_protocols.specs.Parking as Parking
 use Rattle.nt_protocols.specs.Word as Protocol
 use Rattle.nt_protocols.specs.Threads.{Step, when}
 use Rattle.nt_traces.specs.declared.entry.TheConstants.{MAX_THREADS}
-use Rattle.nt_traces.specs.declared.entry.Entry.{Entry}
+use Rattle.nt_traces.specs.declared.entry.TraceEntry.{TraceEntry}
 use Rattle.nt_lock_traces.specs.declared.lock.LockEvent.{LockEvent}
 use Rattle.nt_traces.specs.declared.reading.Runs.{Runs}
 use Rattle.nt_traces.specs.declared.reading.Taken.{Taken}
 use Rattle.nt_traces.specs.declared.reading.TraceFault.{TraceFault}
-use Rattle.nt_traces.specs.declared.reading.Verdict.{Verdict}
+use Rattle.nt_traces.specs.declared.reading.TraceVerdict.{TraceVerdict}
 use Rattle.nt_traces.specs.declared.word.TheConstants.{MOST_SEATS}
 use Rattle.nt_traces.specs.declared.word.WordEvent.{WordEvent}
 use Rattle.nt_lock_traces.specs.LockNames as LockNames
@@ -58,12 +58,12 @@ threads_of [] = None
 threads_of (word ∷ words) = both (number_below MAX_THREADS word) (other_of words)
 
 -- a run begins: `opening`, the protocol's name, and how many threads there are
-abbrev pub opening_of : List (List ℕ) → Option Entry
+abbrev pub opening_of : List (List ℕ) → Option TraceEntry
 opening_of [] = None
 opening_of (protocol ∷ words) =
-    if bytes_eq protocol (codes "lock") then option_map (λ n. Entry.LockOpens n) (opened_of (MAX_THREADS + 1) words)
-    else (if bytes_eq protocol (codes "word") then option_map (λ n. Entry.WordOpens n) (opened_of (MOST_SEATS + 1) words)
-    else (if bytes_eq protocol (codes "park") then option_map (λ n. Entry.ParkOpens n) (opened_of (MOST_PARKED + 1) words) else None))
+    if bytes_eq protocol (codes "lock") then option_map (λ n. TraceEntry.LockOpens n) (opened_of (MAX_THREADS + 1) words)
+    else (if bytes_eq protocol (codes "word") then option_map (λ n. TraceEntry.WordOpens n) (opened_of (MOST_SEATS + 1) words)
+    else (if bytes_eq protocol (codes "park") then option_map (λ n. TraceEntry.ParkOpens n) (opened_of (MOST_PARKED + 1) words) else None))
 
 -- an event with this name, of these threads; or why there is none
 abbrev pub IsLockEvent : List ℕ → Option (ℕ × ℕ) → Option LockEvent → Type 0
@@ -91,13 +91,13 @@ SaysParkEvent [] said = said ≡ None
 SaysParkEvent (name ∷ words) said = IsParkEvent name (threads_of words) said
 
 -- a line of these words says this, or nothing: a run begins; or its protocol's name, the event's, and its threads
-abbrev pub Says : List (List ℕ) → Option Entry → Type 0
+abbrev pub Says : List (List ℕ) → Option TraceEntry → Type 0
 Says [] said = said ≡ None
 Says (first ∷ words) said =
     MatchBool (bytes_eq first (codes "opening")) (said ≡ opening_of words)
-    (MatchBool (bytes_eq first (codes "lock")) ((e : Option LockEvent) × SaysLockEvent words e × (said ≡ option_map (λ x. Entry.LockStep x) e))
-    (MatchBool (bytes_eq first (codes "word")) ((e : Option WordEvent) × SaysWordEvent words e × (said ≡ option_map (λ x. Entry.WordStep x) e))
-    (MatchBool (bytes_eq first (codes "park")) ((e : Option ParkEvent) × SaysParkEvent words e × (said ≡ option_map (λ x. Entry.ParkStep x) e))
+    (MatchBool (bytes_eq first (codes "lock")) ((e : Option LockEvent) × SaysLockEvent words e × (said ≡ option_map (λ x. TraceEntry.LockStep x) e))
+    (MatchBool (bytes_eq first (codes "word")) ((e : Option WordEvent) × SaysWordEvent words e × (said ≡ option_map (λ x. TraceEntry.WordStep x) e))
+    (MatchBool (bytes_eq first (codes "park")) ((e : Option ParkEvent) × SaysParkEvent words e × (said ≡ option_map (λ x. TraceEntry.ParkStep x) e))
     (said ≡ None))))
 
 -- ---- where a trace stands
@@ -126,59 +126,59 @@ at_of r = record {
 }
 
 -- an event names threads that its run has, which has room for it
-abbrev pub Fits : At → Entry → Type 0
-Fits at (Entry.LockOpens n) = Unit {0}
-Fits at (Entry.LockStep e) = LockTrace.IsWithin at.locks e × LockTrace.HasRoom at.lock e
-Fits at (Entry.WordOpens n) = Unit {0}
-Fits at (Entry.WordStep e) = WordTrace.IsWithin at.words e
-Fits at (Entry.ParkOpens n) = Unit {0}
-Fits at (Entry.ParkStep e) = ParkTrace.IsWithin at.parks e
+abbrev pub Fits : At → TraceEntry → Type 0
+Fits at (TraceEntry.LockOpens n) = Unit {0}
+Fits at (TraceEntry.LockStep e) = LockTrace.IsWithin at.locks e × LockTrace.HasRoom at.lock e
+Fits at (TraceEntry.WordOpens n) = Unit {0}
+Fits at (TraceEntry.WordStep e) = WordTrace.IsWithin at.words e
+Fits at (TraceEntry.ParkOpens n) = Unit {0}
+Fits at (TraceEntry.ParkStep e) = ParkTrace.IsWithin at.parks e
 
 -- what a line says comes next: a run begins, or an event of the protocol
-abbrev pub step_of : At → Entry → Step At
-step_of at (Entry.LockOpens n) = when (Unit {0}) (record at { locks = n; lock = Lock.opening })
-step_of at (Entry.LockStep e) = when (LockTrace.step at.lock e).may (record at { lock = (LockTrace.step at.lock e).after })
-step_of at (Entry.WordOpens n) = when (Unit {0}) (record at { words = n; word = Protocol.opening })
-step_of at (Entry.WordStep e) =
+abbrev pub step_of : At → TraceEntry → Step At
+step_of at (TraceEntry.LockOpens n) = when (Unit {0}) (record at { locks = n; lock = Lock.opening })
+step_of at (TraceEntry.LockStep e) = when (LockTrace.step at.lock e).may (record at { lock = (LockTrace.step at.lock e).after })
+step_of at (TraceEntry.WordOpens n) = when (Unit {0}) (record at { words = n; word = Protocol.opening })
+step_of at (TraceEntry.WordStep e) =
     when (WordTrace.step at.word (WordTrace.event_of e.kind e.thread e.other)).may
     (record at { word = (WordTrace.step at.word (WordTrace.event_of e.kind e.thread e.other)).after })
-step_of at (Entry.ParkOpens n) = when (Unit {0}) (record at { parks = n; park = Parking.opening })
-step_of at (Entry.ParkStep e) =
+step_of at (TraceEntry.ParkOpens n) = when (Unit {0}) (record at { parks = n; park = Parking.opening })
+step_of at (TraceEntry.ParkStep e) =
     when (ParkTrace.step at.park (ParkTrace.event_of e.kind e.thread e.other)).may
     (record at { park = (ParkTrace.step at.park (ParkTrace.event_of e.kind e.thread e.other)).after })
 
 -- an entry was taken; or it can't come next, or names threads that its run has not
-abbrev pub Takes : At → Entry → At → Taken → Type 0
+abbrev pub Takes : At → TraceEntry → At → Taken → Type 0
 Takes at entry new Taken.Step = Fits at entry × (step_of at entry).may × (new ≡ (step_of at entry).after)
 Takes at entry new Taken.NoStep = Fits at entry × ((step_of at entry).may → ⊥)
 Takes at entry new Taken.NoEvent = Fits at entry → ⊥
 
-abbrev pub TakesSaid : At → Option Entry → At → Taken → Type 0
+abbrev pub TakesSaid : At → Option TraceEntry → At → Taken → Type 0
 TakesSaid at None new taken = taken ≡ Taken.NoEvent
 TakesSaid at (Some entry) new taken = Takes at entry new taken
 
 -- the same of a line
 abbrev pub TakesLine : At → At → List ℕ → Taken → Type 0
-TakesLine at new line taken = (said : Option Entry) × Says (words_of line) said × TakesSaid at said new taken
+TakesLine at new line taken = (said : Option TraceEntry) × Says (words_of line) said × TakesSaid at said new taken
 
 -- ---- what is found
 
 -- The line of this number says nothing, or names threads that its run has not; or its event can't come next; or it comes, and it goes on from there.
-abbrev pub TellsSaid : At → ℕ → Option Entry → Result Verdict TraceFault → (At → Type 0) → Type 0
+abbrev pub TellsSaid : At → ℕ → Option TraceEntry → Result TraceVerdict TraceFault → (At → Type 0) → Type 0
 TellsSaid at number None found GoesOn = found ≡ Err (TraceFault.Line number)
 TellsSaid at number (Some entry) found GoesOn =
     ((Fits at entry → ⊥) × (found ≡ Err (TraceFault.Line number)))
-    ⊎ ((Fits at entry × ((step_of at entry).may → ⊥) × (found ≡ Ok (Verdict.IsNoStep number)))
+    ⊎ ((Fits at entry × ((step_of at entry).may → ⊥) × (found ≡ Ok (TraceVerdict.IsNoStep number)))
     ⊎ (Fits at entry × (step_of at entry).may × GoesOn (step_of at entry).after))
 
 -- what is found of these lines, after so many that have led there: they are runs, or of the first that is none why
-abbrev pub Tells : At → ℕ → List (List ℕ) → Result Verdict TraceFault → Type 0
-Tells at number [] found = found ≡ Ok (Verdict.IsRun number)
+abbrev pub Tells : At → ℕ → List (List ℕ) → Result TraceVerdict TraceFault → Type 0
+Tells at number [] found = found ≡ Ok (TraceVerdict.IsRun number)
 Tells at number (line ∷ lines) found =
-    (said : Option Entry) × Says (words_of line) said × TellsSaid at (number + 1) said found (λ (after : At). Tells after (number + 1) lines found)
+    (said : Option TraceEntry) × Says (words_of line) said × TellsSaid at (number + 1) said found (λ (after : At). Tells after (number + 1) lines found)
 
 -- the same, where memory may have been refused: then nothing is found
-abbrev pub IsTold : At → List (List ℕ) → Result Verdict TraceFault → Type 0
+abbrev pub IsTold : At → List (List ℕ) → Result TraceVerdict TraceFault → Type 0
 IsTold at lines (Ok verdict) = Tells at 0 lines (Ok verdict)
 IsTold at lines (Err (TraceFault.Line number)) = Tells at 0 lines (Err (TraceFault.Line number))
 IsTold at lines (Err TraceFault.Memory) = Unit {0}

@@ -4,7 +4,7 @@ use Rattle.std.specs.Prelude.{◌≡◌, ◌↔◌, IsTrue, IsFalse, ℕ, ◌<�
 use Rattle.nt_protocols.specs.Word as Protocol
 use Rattle.nt_protocols.specs.Threads.{put, Step, when, Can}
 use Rattle.nt_traces.specs.declared.word.TheConstants.{MOST_SEATS}
-use Rattle.nt_traces.specs.declared.word.Word.{Word}
+use Rattle.nt_traces.specs.declared.word.WordValue.{WordValue}
 use Rattle.nt_traces.specs.declared.word.WordPlace.{WordPlace}
 use Rattle.nt_traces.specs.declared.word.WordSeat.{WordSeat}
 use Rattle.nt_traces.specs.declared.word.WordKind.{WordKind}
@@ -12,11 +12,11 @@ use Rattle.nt_traces.specs.declared.word.WordEvent.{WordEvent}
 use Rattle.nt_traces.specs.declared.word_run.WordRun.{WordRun}
 
 -- what a word says, and a place, as the protocol has them
-abbrev pub word_of : Word → Protocol.Word
-word_of Word.Awake = Protocol.Word.Awake
-word_of Word.Asleep = Protocol.Word.Asleep
-word_of Word.Called = Protocol.Word.Called
-word_of Word.Granted = Protocol.Word.Granted
+abbrev pub word_of : WordValue → Protocol.Word
+word_of WordValue.Awake = Protocol.Word.Awake
+word_of WordValue.Asleep = Protocol.Word.Asleep
+word_of WordValue.Called = Protocol.Word.Called
+word_of WordValue.Granted = Protocol.Word.Granted
 
 abbrev pub place_of : WordPlace → Protocol.Place
 place_of WordPlace.Outside = Protocol.Place.Outside
@@ -34,7 +34,7 @@ abbrev pub seat_of : WordSeat → Protocol.Seat
 seat_of a = record { word = word_of a.word; place = place_of a.place; pends = a.pends; due = a.due; grants = 0; answers = 0 }
 
 abbrev pub outside : WordSeat
-outside = record { word = Word.Awake; place = WordPlace.Outside; pends = false; due = false; owes = [] }
+outside = record { word = WordValue.Awake; place = WordPlace.Outside; pends = false; due = false; owes = [] }
 
 -- the threads of this list, and to whom each owes a wake-up
 abbrev pub seats_of : List WordSeat → ℕ → Protocol.Seat

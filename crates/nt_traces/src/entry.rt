@@ -29,7 +29,7 @@ const PARK: &[u8] = b"park";
 
 /// What a line says: a run of a protocol begins, or an event of it.
 #[derive(Clone, Copy, Debug, PartialEq, Eq)]
-pub enum Entry {
+pub enum TraceEntry {
     LockOpens(usize),
     LockStep(LockEvent),
     WordOpens(usize),
@@ -151,24 +151,24 @@ fn park_event_in(text: &[u8]) -> Option<ParkEvent>
 }
 
 /// A run begins.
-fn opening_in(text: &[u8]) -> Option<Entry>
+fn opening_in(text: &[u8]) -> Option<TraceEntry>
     ensures { result ≡ opening_of (words_of text.now) }
 {
     match first_word(text) {
         Some((protocol, left)) => {
             if protocol == LOCK {
                 match opened_in(left, MAX_THREADS + 1) {
-                    Some(threads) => Some(Entry::LockOpens(threads)),
+                    Some(threads) => Some(TraceEntry::LockOpens(threads)),
                     None => None,
                 }
             } else if protocol == WORD {
                 match opened_in(left, MAX_SEATS + 1) {
-                    Some(threads) => Some(Entry::WordOpens(threads)),
+                    Some(threads) => Some(TraceEntry::WordOpens(threads)),
                     None => None,
                 }
             } else if protocol == PARK {
                 match opened_in(left, MAX_PARKED + 1) {
-                    Some(threads) => Some(Entry::ParkOpens(threads)),
+                    Some(threads) => Some(TraceEntry::ParkOpens(threads)),
                     None => None,
                 }
             } else {
@@ -180,7 +180,7 @@ fn opening_in(text: &[u8]) -> Option<Entry>
 }
 
 /// What the line says, if it says anything.
-pub(crate) fn entry_in(line: &[u8]) -> Option<Entry>
+pub(crate) fn entry_in(line: &[u8]) -> Option<TraceEntry>
     ensures { Says (words_of line.now) result }
 {
     match first_word(line) {
@@ -189,17 +189,17 @@ pub(crate) fn entry_in(line: &[u8]) -> Option<Entry>
                 opening_in(left)
             } else if first == LOCK {
                 match lock_event_in(left) {
-                    Some(event) => Some(Entry::LockStep(event)),
+                    Some(event) => Some(TraceEntry::LockStep(event)),
                     None => None,
                 }
             } else if first == WORD {
                 match word_event_in(left) {
-                    Some(event) => Some(Entry::WordStep(event)),
+                    Some(event) => Some(TraceEntry::WordStep(event)),
                     None => None,
                 }
             } else if first == PARK {
                 match park_event_in(left) {
-                    Some(event) => Some(Entry::ParkStep(event)),
+                    Some(event) => Some(TraceEntry::ParkStep(event)),
                     None => None,
                 }
             } else {

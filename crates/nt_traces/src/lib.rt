@@ -17,6 +17,6 @@ mod word_steps;
 
 pub use entry::MAX_THREADS;
 pub use law::counts_tell_nothing;
-pub use reading::{TraceFault, Verdict, read_trace};
-pub use word::{MOST_SEATS, Word, WordEvent, WordKind, WordPlace, WordSeat};
+pub use reading::{TraceFault, TraceVerdict, read_trace};
+pub use word::{MOST_SEATS, WordEvent, WordKind, WordPlace, WordSeat, WordValue};
 pub use word_run::WordRun;

@@ -2,10 +2,10 @@
 
 ghost use Rattle.std.specs.Prelude.{◌≡◌, IfOk};
 ghost use Rattle.nt_lines.specs.Lines.{lines_of};
-ghost use Rattle.nt_traces.specs.declared.entry.Entry.{Entry};
+ghost use Rattle.nt_traces.specs.declared.entry.TraceEntry.{TraceEntry};
 ghost use Rattle.nt_traces.specs.Traces.{at_of, start, IsTold, Takes, TakesLine};
 
-use crate::entry::{Entry, entry_in};
+use crate::entry::{TraceEntry, entry_in};
 use crate::lines::first_line;
 use crate::word::WordEvent;
 use crate::word_run::WordRun;
@@ -15,7 +15,7 @@ use std::alloc::{AllocError, Global};
 
 /// What a trace is found to be.
 #[derive(Clone, Copy, Debug, PartialEq, Eq)]
-pub enum Verdict {
+pub enum TraceVerdict {
     /// This number of lines, each of which begins a run or is a step of one.
     IsRun(u64),
     /// The event on this line is the first that is no step.
@@ -59,7 +59,7 @@ impl Runs {
     }
 
     fn take_lock(&mut self, event: LockEvent) -> Taken
-        ensures { Takes (at_of self.old) (Entry.LockStep event) (at_of self.new) result }
+        ensures { Takes (at_of self.old) (TraceEntry.LockStep event) (at_of self.new) result }
     {
         if !self.lock.has(event) {
             Taken::NoEvent
@@ -71,7 +71,7 @@ impl Runs {
     }
 
     fn take_word(&mut self, event: WordEvent) -> Taken
-        ensures { Takes (at_of self.old) (Entry.WordStep event) (at_of self.new) result }
+        ensures { Takes (at_of self.old) (TraceEntry.WordStep event) (at_of self.new) result }
     {
         if !self.word.has(event) {
             Taken::NoEvent
@@ -83,7 +83,7 @@ impl Runs {
     }
 
     fn take_park(&mut self, event: ParkEvent) -> Taken
-        ensures { Takes (at_of self.old) (Entry.ParkStep event) (at_of self.new) result }
+        ensures { Takes (at_of self.old) (TraceEntry.ParkStep event) (at_of self.new) result }
     {
         if !self.park.has(event) {
             Taken::NoEvent
@@ -95,16 +95,16 @@ impl Runs {
     }
 
     /// Takes what a line says.
-    fn take(&mut self, alloc: Global, entry: Entry) -> Result<Taken, AllocError>
+    fn take(&mut self, alloc: Global, entry: TraceEntry) -> Result<Taken, AllocError>
         ensures { IfOk result (Takes (at_of self.old) entry (at_of self.new)) }
     {
         match entry {
-            Entry::LockOpens(threads) => self.lock = LockRun::new(alloc, threads)?,
-            Entry::WordOpens(threads) => self.word = WordRun::new(alloc, threads)?,
-            Entry::ParkOpens(threads) => self.park = ParkRun::new(alloc, threads)?,
-            Entry::LockStep(event) => return Ok(self.take_lock(event)),
-            Entry::WordStep(event) => return Ok(self.take_word(event)),
-            Entry::ParkStep(event) => return Ok(self.take_park(event)),
+            TraceEntry::LockOpens(threads) => self.lock = LockRun::new(alloc, threads)?,
+            TraceEntry::WordOpens(threads) => self.word = WordRun::new(alloc, threads)?,
+            TraceEntry::ParkOpens(threads) => self.park = ParkRun::new(alloc, threads)?,
+            TraceEntry::LockStep(event) => return Ok(self.take_lock(event)),
+            TraceEntry::WordStep(event) => return Ok(self.take_word(event)),
+            TraceEntry::ParkStep(event) => return Ok(self.take_park(event)),
         }
         Ok(Taken::Step)
     }
@@ -119,7 +119,7 @@ impl Runs {
     }
 
     /// Takes all lines.
-    fn read(&mut self, alloc: Global, text: &[u8]) -> Result<Verdict, TraceFault>
+    fn read(&mut self, alloc: Global, text: &[u8]) -> Result<TraceVerdict, TraceFault>
         ensures { IsTold (at_of self.old) (lines_of text.now) result }
     {
         let mut rest = text;
@@ -128,19 +128,19 @@ impl Runs {
             let (line, after) = first_line(rest);
             match self.take_line(alloc, line) {
                 Ok(Taken::Step) => {}
-                Ok(Taken::NoStep) => return Ok(Verdict::IsNoStep(lines + 1)),
+                Ok(Taken::NoStep) => return Ok(TraceVerdict::IsNoStep(lines + 1)),
                 Ok(Taken::NoEvent) => return Err(TraceFault::Line(lines + 1)),
                 Err(AllocError) => return Err(TraceFault::Memory),
             }
             lines += 1;
             rest = after;
         }
-        Ok(Verdict::IsRun(lines))
+        Ok(TraceVerdict::IsRun(lines))
     }
 }
 
 /// Reads a trace to its end, or to the first line that is no step: which run is read, or which line is the first that is none, and why.
-pub fn read_trace(alloc: Global, text: &[u8]) -> Result<Verdict, TraceFault>
+pub fn read_trace(alloc: Global, text: &[u8]) -> Result<TraceVerdict, TraceFault>
     ensures { IsTold start (lines_of text.now) result }
 {
     match Runs::new(alloc) {

@@ -5,7 +5,7 @@ pub const MOST_SEATS: usize = 64;
 
 /// What a thread's word says.
 #[derive(Clone, Copy, Debug, PartialEq, Eq)]
-pub enum Word {
+pub enum WordValue {
     Awake,
     Asleep,
     Called,
@@ -29,7 +29,7 @@ pub enum WordPlace {
 /// What there is of one thread, and to whom it owes a wake-up. How many of its waits were granted is not counted: no step asks for that.
 #[derive(Clone, Copy)]
 pub struct WordSeat {
-    pub word: Word,
+    pub word: WordValue,
     pub place: WordPlace,
     pub pends: bool,
     pub due: bool,

@@ -6,7 +6,7 @@ ghost use Rattle.nt_protocols.specs.Threads.{put};
 ghost use Rattle.nt_traces.specs.declared.word.TheConstants.{MOST_SEATS};
 ghost use Rattle.nt_traces.specs.WordTrace.{outside, owing, place_of, seat_of, state_of, uncounted, uncounted_seat, word_of};
 
-use crate::word::{Word, WordPlace, WordSeat};
+use crate::word::{WordPlace, WordSeat, WordValue};
 
 /// The threads, as the events that were read have led to them.
 #[derive(Drop)]
@@ -15,11 +15,11 @@ pub struct WordRun {
 }
 
 /// Where futex_wait leads that finds the word so.
-fn dozed(word: Word) -> WordPlace
+fn dozed(word: WordValue) -> WordPlace
     ensures { place_of result ≡ Protocol.dozed (word_of word) }
 {
     match word {
-        Word::Asleep => WordPlace::Sleeping,
+        WordValue::Asleep => WordPlace::Sleeping,
         _ => WordPlace::ToLoad,
     }
 }
@@ -35,12 +35,12 @@ fn woken(place: WordPlace) -> WordPlace
 }
 
 /// What a word says once its thread has looked at the time.
-fn in_time(word: Word) -> Word
+fn in_time(word: WordValue) -> WordValue
     ensures { word_of result ≡ Protocol.in_time (word_of word) }
 {
     match word {
-        Word::Granted => Word::Granted,
-        _ => Word::Awake,
+        WordValue::Granted => WordValue::Granted,
+        _ => WordValue::Awake,
     }
 }
 
@@ -50,8 +50,8 @@ fn told(seat: WordSeat) -> WordSeat
     ensures owes { result.owes ≡ seat.owes }
 {
     let place = match seat.word {
-        Word::Granted => WordPlace::InCall,
-        Word::Asleep => WordPlace::ToSleep,
+        WordValue::Granted => WordPlace::InCall,
+        WordValue::Asleep => WordPlace::ToSleep,
         _ => WordPlace::ToLookAtTime,
     };
     WordSeat { place, ..seat }
@@ -63,8 +63,8 @@ fn marked(seat: WordSeat) -> WordSeat
     ensures owes { result.owes ≡ seat.owes }
 {
     match seat.word {
-        Word::Awake => WordSeat {
-            word: Word::Asleep,
+        WordValue::Awake => WordSeat {
+            word: WordValue::Asleep,
             place: WordPlace::ToSleep,
             ..seat
         },
@@ -188,7 +188,7 @@ impl WordRun {
         self.becomes(
             t,
             WordSeat {
-                word: Word::Awake,
+                word: WordValue::Awake,
                 place: WordPlace::InWait,
                 pends: true,
                 due: false,
@@ -253,7 +253,7 @@ impl WordRun {
             ((state_of self.old).owes t u || Protocol.is_asleep ((state_of self.old).seats u).word) }
         ensures len { length self.new.seats.items ≡ length self.old.seats.items }
     {
-        let owed = self.owes(t, u) || self.seat(u).word == Word::Asleep;
+        let owed = self.owes(t, u) || self.seat(u).word == WordValue::Asleep;
         self.owe(t, u, owed);
     }
 
@@ -269,7 +269,7 @@ impl WordRun {
         self.becomes(
             u,
             WordSeat {
-                word: Word::Granted,
+                word: WordValue::Granted,
                 pends: false,
                 ..seat
             },
@@ -288,7 +288,7 @@ impl WordRun {
         self.becomes(
             u,
             WordSeat {
-                word: Word::Called,
+                word: WordValue::Called,
                 due: true,
                 ..seat
             },

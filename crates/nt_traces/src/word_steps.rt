@@ -9,13 +9,13 @@ ghost use Rattle.nt_traces.specs.WordTrace.{event_of, place_of, state_of, step, 
 use crate::word::WordPlace::{
     InCall, InWait, Outside, Passing, Sleeping, ToCompare, ToLoad, ToLookAtTime, ToSleep,
 };
-use crate::word::{MOST_SEATS, Word, WordEvent, WordKind, WordPlace, WordSeat};
+use crate::word::{MOST_SEATS, WordEvent, WordKind, WordPlace, WordSeat, WordValue};
 use crate::word_run::WordRun;
 use std::alloc::{AllocError, Global};
 
 /// A thread that has not called.
 const OUTSIDE: WordSeat = WordSeat {
-    word: Word::Awake,
+    word: WordValue::Awake,
     place: Outside,
     pends: false,
     due: false,

@@ -6,7 +6,7 @@
 #![tactic(auto)]
 
 use nt_devices::{Counted, Sink, Source, write_and_flush};
-use nt_traces::{TraceFault, Verdict, read_trace};
+use nt_traces::{TraceFault, TraceVerdict, read_trace};
 use std::alloc::{AllocError, Global};
 use std::env::{self, Env};
 use std::fs;
@@ -63,7 +63,7 @@ fn read_whole<R: Source>(alloc: Global, reader: &mut R) -> Result<Vec<u8>, Failu
 }
 
 /// What is found of the trace that the reader gives.
-fn find<R: Source>(alloc: Global, reader: &mut R) -> Result<Verdict, Failure> {
+fn find<R: Source>(alloc: Global, reader: &mut R) -> Result<TraceVerdict, Failure> {
     let text = read_whole(alloc, reader)?;
     match read_trace(alloc, &text) {
         Ok(verdict) => Ok(verdict),
@@ -72,7 +72,10 @@ fn find<R: Source>(alloc: Global, reader: &mut R) -> Result<Verdict, Failure> {
 }
 
 /// What is found of the trace in this file, or on standard input.
-fn found<R: AllocGlobal + Files + Input>(rt: &R, file: Option<&str>) -> Result<Verdict, Failure> {
+fn found<R: AllocGlobal + Files + Input>(
+    rt: &R,
+    file: Option<&str>,
+) -> Result<TraceVerdict, Failure> {
     match file {
         Some(path) => match fs::open(rt, path) {
             Ok(file) => find(rt.alloc(), &mut Counted::new(file)),
@@ -83,10 +86,13 @@ fn found<R: AllocGlobal + Files + Input>(rt: &R, file: Option<&str>) -> Result<V
 }
 
 /// What is said of a trace.
-fn said<R: AllocGlobal>(rt: &R, found: Result<Verdict, Failure>) -> Result<String, AllocError> {
+fn said<R: AllocGlobal>(
+    rt: &R,
+    found: Result<TraceVerdict, Failure>,
+) -> Result<String, AllocError> {
     match found {
-        Ok(Verdict::IsRun(lines)) => format!(in rt.alloc(); "{lines} lines are runs\n"),
-        Ok(Verdict::IsNoStep(line)) => format!(in rt.alloc();
+        Ok(TraceVerdict::IsRun(lines)) => format!(in rt.alloc(); "{lines} lines are runs\n"),
+        Ok(TraceVerdict::IsNoStep(line)) => format!(in rt.alloc();
             "line {line}: no step of its protocol\n"
         ),
         Err(Failure::Line(line)) => format!(in rt.alloc(); "ntrace: line {line}: no event\n"),
@@ -95,16 +101,20 @@ fn said<R: AllocGlobal>(rt: &R, found: Result<Verdict, Failure>) -> Result<Strin
     }
 }
 
-fn status_of(found: Result<Verdict, Failure>) -> u8 {
+fn status_of(found: Result<TraceVerdict, Failure>) -> u8 {
     match found {
-        Ok(Verdict::IsRun(_)) => 0,
-        Ok(Verdict::IsNoStep(_)) => 3,
+        Ok(TraceVerdict::IsRun(_)) => 0,
+        Ok(TraceVerdict::IsNoStep(_)) => 3,
         Err(_) => 2,
     }
 }
 
 /// Tells what was found, and answers the exit status.
-fn tell<R: AllocGlobal, W: Sink>(rt: &R, found: Result<Verdict, Failure>, writer: &mut W) -> u8 {
+fn tell<R: AllocGlobal, W: Sink>(
+    rt: &R,
+    found: Result<TraceVerdict, Failure>,
+    writer: &mut W,
+) -> u8 {
     match said(rt, found) {
         Ok(text) => {
             if write_and_flush(writer, text.as_str().as_bytes()).is_ok() {
