@@ -12,7 +12,7 @@ use std::env;
 use std::io::{self, Write};
 use std::process::ExitCode;
 use std::time::{Duration, Instant};
-use turns::{Counts, Fault, Stage};
+use turns::{BenchFault, CallCounts, Stage};
 
 /// How often a round is made where nothing is timed.
 const FEW: u64 = 3;
@@ -62,29 +62,34 @@ fn plan_of(rt: &HostRuntime) -> Result<Plan, AllocError> {
 /// What a shape counted, and how long it took.
 #[derive(Clone, Copy)]
 struct Measured {
-    counts: Counts,
+    counts: CallCounts,
     took: Duration,
 }
 
 /// Makes the stage's round `rounds` times, and measures the time.
-fn timed(rt: &HostRuntime, stage: &mut Stage<'_>, rounds: u64) -> Result<Measured, Fault> {
-    let began = Instant::now(rt).map_err(|_| Fault::Clock)?;
+fn timed(rt: &HostRuntime, stage: &mut Stage<'_>, rounds: u64) -> Result<Measured, BenchFault> {
+    let began = Instant::now(rt).map_err(|_| BenchFault::Clock)?;
     let counts = stage.run(rounds)?;
-    let took = began.elapsed(rt).map_err(|_| Fault::Clock)?;
+    let took = began.elapsed(rt).map_err(|_| BenchFault::Clock)?;
     Ok(Measured { counts, took })
 }
 
 /// Opens a stage for the shape, and makes its round `rounds` times.
-fn measure(rt: &HostRuntime, shape: &Shape, rounds: u64) -> Result<Measured, Fault> {
+fn measure(rt: &HostRuntime, shape: &Shape, rounds: u64) -> Result<Measured, BenchFault> {
     let mut stage = Stage::open(rt.alloc(), shape)?;
     timed(rt, &mut stage, rounds)
 }
 
 /// Runs one shape, and prints its line.
-fn run_shape(rt: &HostRuntime, number: u32, plan: Plan, out: &mut impl Write) -> Result<(), Fault> {
+fn run_shape(
+    rt: &HostRuntime,
+    number: u32,
+    plan: Plan,
+    out: &mut impl Write,
+) -> Result<(), BenchFault> {
     let shape = shape_of(rt.alloc(), number)?;
     let Measured { counts, took } = measure(rt, &shape, plan.rounds)?;
-    let Counts { calls, grants } = counts;
+    let CallCounts { calls, grants } = counts;
     let told = if plan.is_timed {
         let picoseconds = took.as_nanos().saturating_mul(1000) / (calls.max(1) as u128);
         writeln!(
@@ -95,10 +100,10 @@ fn run_shape(rt: &HostRuntime, number: u32, plan: Plan, out: &mut impl Write) ->
     } else {
         writeln!(out, "{}: {calls} calls, {grants} grants", shape.name)
     };
-    told.map_err(|_| Fault::Output)
+    told.map_err(|_| BenchFault::Output)
 }
 
-fn run_all(rt: &HostRuntime) -> Result<(), Fault> {
+fn run_all(rt: &HostRuntime) -> Result<(), BenchFault> {
     let plan = plan_of(rt)?;
     let mut out = io::writer(rt);
     for number in 0..SHAPES {

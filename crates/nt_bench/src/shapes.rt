@@ -1,6 +1,6 @@
 //! What is timed.
 
-use crate::turns::Turn;
+use crate::turns::ThreadCall;
 use nt_core::{Act, Call, WaitCall, WaitMode};
 use nt_status::{Handle, Handles, INFINITE};
 use std::alloc::{AllocError, Global};
@@ -11,8 +11,8 @@ use std::ops::Range;
 pub struct Shape {
     pub name: &'static str,
     pub threads: u32,
-    pub prepare: Vec<Turn>,
-    pub round: Vec<Turn>,
+    pub prepare: Vec<ThreadCall>,
+    pub round: Vec<ThreadCall>,
 }
 
 impl Shape {
@@ -93,7 +93,7 @@ fn wait(
     objects: Range<u32>,
     all: bool,
     ms: u32,
-) -> Result<Turn, AllocError> {
+) -> Result<ThreadCall, AllocError> {
     let mut handles = Handles::new(alloc);
     for number in objects {
         handles.push(Handle::new(number))?;
@@ -103,14 +103,14 @@ fn wait(
         alertable: false,
     };
     let wait = WaitCall::Objects { handles, all, mode };
-    Ok(Turn {
+    Ok(ThreadCall {
         who,
         call: Call::Wait(wait),
     })
 }
 
-fn act(who: u32, act: Act) -> Turn {
-    Turn {
+fn act(who: u32, act: Act) -> ThreadCall {
+    ThreadCall {
         who,
         call: Call::Act(act),
     }
@@ -203,7 +203,7 @@ fn signal_and_wait(alloc: Global) -> Result<Shape, AllocError> {
             alertable: false,
         },
     });
-    shape.round.push(Turn { who: 1, call })?;
+    shape.round.push(ThreadCall { who: 1, call })?;
     shape.then(0, set(3))
 }
 

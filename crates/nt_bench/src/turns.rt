@@ -8,41 +8,41 @@ use std::alloc::{AllocError, Global};
 
 /// Why a bench can't go on.
 #[derive(Clone, Copy, Debug)]
-pub enum Fault {
+pub enum BenchFault {
     Memory,
     Refused(Refusal),
     Clock,
     Output,
 }
 
-impl From<AllocError> for Fault {
-    fn from(_: AllocError) -> Fault {
-        Fault::Memory
+impl From<AllocError> for BenchFault {
+    fn from(_: AllocError) -> BenchFault {
+        BenchFault::Memory
     }
 }
 
-impl From<Refusal> for Fault {
-    fn from(refusal: Refusal) -> Fault {
-        Fault::Refused(refusal)
+impl From<Refusal> for BenchFault {
+    fn from(refusal: Refusal) -> BenchFault {
+        BenchFault::Refused(refusal)
     }
 }
 
 /// One call by one thread.
 #[derive(Drop)]
-pub struct Turn {
+pub struct ThreadCall {
     pub who: u32,
     pub call: Call,
 }
 
 /// How many calls were made, and how many pending waits they ended.
 #[derive(Clone, Copy)]
-pub struct Counts {
+pub struct CallCounts {
     pub calls: u64,
     pub grants: u64,
 }
 
 /// Makes the call, and answers how many pending waits it ended.
-fn make(core: &mut Core, turn: &Turn) -> Result<u64, Refusal> {
+fn make(core: &mut Core, turn: &ThreadCall) -> Result<u64, Refusal> {
     // The prover wants the types inside of a reply named here.
     let _inside: Option<Apc> = None;
     let _reply = core.call(turn.who, &turn.call)?;
@@ -50,7 +50,7 @@ fn make(core: &mut Core, turn: &Turn) -> Result<u64, Refusal> {
 }
 
 /// Makes `calls` calls, in turn and over and over, and answers how many pending waits they ended.
-fn make_in_turn(core: &mut Core, turns: &[Turn], calls: u64) -> Result<u64, Refusal> {
+fn make_in_turn(core: &mut Core, turns: &[ThreadCall], calls: u64) -> Result<u64, Refusal> {
     let mut grants = 0_u64;
     let mut place = 0_usize;
     for _ in 0..calls {
@@ -71,11 +71,11 @@ fn make_in_turn(core: &mut Core, turns: &[Turn], calls: u64) -> Result<u64, Refu
 #[derive(Drop)]
 pub struct Stage<'a> {
     core: Core,
-    round: &'a [Turn],
+    round: &'a [ThreadCall],
 }
 
 impl<'a> Stage<'a> {
-    pub fn open(alloc: Global, shape: &'a Shape) -> Result<Self, Fault> {
+    pub fn open(alloc: Global, shape: &'a Shape) -> Result<Self, BenchFault> {
         let mut core = Core::new(alloc, shape.threads)?;
         make_in_turn(&mut core, &shape.prepare, shape.prepare.len() as u64)?;
         Ok(Stage {
@@ -85,9 +85,9 @@ impl<'a> Stage<'a> {
     }
 
     /// Makes the round `rounds` times.
-    pub fn run(&mut self, rounds: u64) -> Result<Counts, Refusal> {
+    pub fn run(&mut self, rounds: u64) -> Result<CallCounts, Refusal> {
         let calls = rounds.wrapping_mul(self.round.len() as u64);
         let grants = make_in_turn(&mut self.core, self.round, calls)?;
-        Ok(Counts { calls, grants })
+        Ok(CallCounts { calls, grants })
     }
 }
