@@ -1,7 +1,7 @@
 //! What one thread does.
 use crate::moves::{call, nanos_since, now, try_wait, wait_for};
-use crate::shapes::{Company, Kind, Shape};
-use crate::told::Told;
+use crate::shapes::{Company, FrontShape, RoundKind};
+use crate::told::Measurement;
 use nt_core::Act;
 use nt_front::{Front, Named, Pass};
 use nt_status::{Handle, Moment, Status, UNITS_PER_MS};
@@ -14,17 +14,17 @@ pub fn set_stage<N: Named, R: Wait>(
     rt: &R,
     front: &Front<N>,
     pass: &mut Pass<N>,
-    shape: &Shape,
-    told: &mut Told,
+    shape: &FrontShape,
+    told: &mut Measurement,
 ) {
     create_events(rt, front, pass, shape.crowd(), told);
     match shape.kind {
-        Kind::Mutex => call(rt, front, pass, Act::CreateMutex(0), told),
-        Kind::Semaphore => create_semaphore(rt, front, pass, told),
-        Kind::AnyOf64 => create_events(rt, front, pass, 64, told),
-        Kind::OneOf64 => create_events(rt, front, pass, 65, told),
-        Kind::RoundTrip => create_events(rt, front, pass, 2, told),
-        Kind::Ticks(timers) => {
+        RoundKind::Mutex => call(rt, front, pass, Act::CreateMutex(0), told),
+        RoundKind::Semaphore => create_semaphore(rt, front, pass, told),
+        RoundKind::AnyOf64 => create_events(rt, front, pass, 64, told),
+        RoundKind::OneOf64 => create_events(rt, front, pass, 65, told),
+        RoundKind::RoundTrip => create_events(rt, front, pass, 2, told),
+        RoundKind::Ticks(timers) => {
             create_timers(rt, front, pass, timers, told);
             arm(rt, front, pass, shape.first_handle(), timers, told);
         }
@@ -41,7 +41,7 @@ fn create_semaphore<N: Named, R: Wait>(
     rt: &R,
     front: &Front<N>,
     pass: &mut Pass<N>,
-    told: &mut Told,
+    told: &mut Measurement,
 ) {
     let (initial, maximum) = (0, 1);
     call(
@@ -59,7 +59,7 @@ fn create_events<N: Named, R: Wait>(
     front: &Front<N>,
     pass: &mut Pass<N>,
     count: u32,
-    told: &mut Told,
+    told: &mut Measurement,
 ) {
     for _ in 0..count {
         call(rt, front, pass, Act::CreateEvent(0), told);
@@ -72,7 +72,7 @@ fn create_timers<N: Named, R: Wait>(
     front: &Front<N>,
     pass: &mut Pass<N>,
     count: u32,
-    told: &mut Told,
+    told: &mut Measurement,
 ) {
     for _ in 0..count {
         call(rt, front, pass, Act::CreateTimer(1), told);
@@ -86,7 +86,7 @@ fn arm<N: Named, R: Wait>(
     pass: &mut Pass<N>,
     first: u32,
     timers: u32,
-    told: &mut Told,
+    told: &mut Measurement,
 ) {
     let period = i32::try_from(timers).unwrap_or(i32::MAX);
     for number in 0..timers {
@@ -106,9 +106,9 @@ pub fn alone<N: Named, R: Wait + Clock>(
     alloc: Global,
     front: &Front<N>,
     mut pass: Pass<N>,
-    shape: &Shape,
+    shape: &FrontShape,
     rounds: u32,
-    told: &mut Told,
+    told: &mut Measurement,
 ) -> Pass<N> {
     set_stage(rt, front, &mut pass, shape, told);
     rounds_of(rt, alloc, front, pass, shape, rounds, told)
@@ -120,22 +120,22 @@ pub fn rounds_of<N: Named, R: Wait + Clock>(
     alloc: Global,
     front: &Front<N>,
     mut pass: Pass<N>,
-    shape: &Shape,
+    shape: &FrontShape,
     rounds: u32,
-    told: &mut Told,
+    told: &mut Measurement,
 ) -> Pass<N> {
     let first = shape.first_handle();
     let object = Handle::new(first);
     let began = now(rt);
     let pass = match shape.kind {
-        Kind::Mutex => mutexes(rt, alloc, front, pass, object, rounds, told),
-        Kind::Semaphore => semaphores(rt, alloc, front, pass, object, rounds, told),
-        Kind::AnyOf64 => any_of_64(rt, alloc, front, pass, first, rounds, told),
-        Kind::Ticks(_) => {
+        RoundKind::Mutex => mutexes(rt, alloc, front, pass, object, rounds, told),
+        RoundKind::Semaphore => semaphores(rt, alloc, front, pass, object, rounds, told),
+        RoundKind::AnyOf64 => any_of_64(rt, alloc, front, pass, first, rounds, told),
+        RoundKind::Ticks(_) => {
             ticks(rt, front, &mut pass, rounds, told);
             pass
         }
-        Kind::Rotate => {
+        RoundKind::Rotate => {
             parts(rt, front, &mut pass, rounds, told);
             pass
         }
@@ -152,7 +152,7 @@ fn events<N: Named, R: Wait>(
     mut pass: Pass<N>,
     event: Handle,
     rounds: u32,
-    told: &mut Told,
+    told: &mut Measurement,
 ) -> Pass<N> {
     for _ in 0..rounds {
         call(rt, front, &mut pass, Act::SetEvent(event), told);
@@ -168,7 +168,7 @@ fn mutexes<N: Named, R: Wait>(
     mut pass: Pass<N>,
     mutex: Handle,
     rounds: u32,
-    told: &mut Told,
+    told: &mut Measurement,
 ) -> Pass<N> {
     for _ in 0..rounds {
         pass = wait_for(rt, alloc, front, pass, mutex, told);
@@ -184,7 +184,7 @@ fn semaphores<N: Named, R: Wait>(
     mut pass: Pass<N>,
     semaphore: Handle,
     rounds: u32,
-    told: &mut Told,
+    told: &mut Measurement,
 ) -> Pass<N> {
     for _ in 0..rounds {
         call(
@@ -209,7 +209,7 @@ fn any_of_64<N: Named, R: Wait>(
     mut pass: Pass<N>,
     first: u32,
     rounds: u32,
-    told: &mut Told,
+    told: &mut Measurement,
 ) -> Pass<N> {
     let mut events = [Handle::new(0); 64];
     let mut number = first;
@@ -229,7 +229,7 @@ fn parts<N: Named, R: Wait>(
     front: &Front<N>,
     pass: &mut Pass<N>,
     rounds: u32,
-    told: &mut Told,
+    told: &mut Measurement,
 ) {
     for _ in 0..rounds {
         told.called(front.rotate(rt, pass).is_ok());
@@ -241,7 +241,7 @@ fn ticks<N: Named, R: Wait>(
     front: &Front<N>,
     pass: &mut Pass<N>,
     rounds: u32,
-    told: &mut Told,
+    told: &mut Measurement,
 ) {
     for number in 0..rounds {
         let Some(moment) = Moment::new((u64::from(number) + 1) * UNITS_PER_MS) else {

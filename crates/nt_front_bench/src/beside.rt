@@ -2,9 +2,9 @@
 //! with no atomic step while there is only one.
 use crate::alone::{rounds_of, set_stage};
 use crate::moves::{call, wait_for};
-use crate::pair::Back;
-use crate::shapes::Shape;
-use crate::told::Told;
+use crate::pair::SideResult;
+use crate::shapes::FrontShape;
+use crate::told::Measurement;
 use nt_core::Act;
 use nt_front::{Carried, Front, Named, Pass};
 use std::alloc::Global;
@@ -18,13 +18,13 @@ fn lead<N: Named, R: Wait + Clock>(
     alloc: Global,
     front: &Front<N>,
     carried: Carried<Pass<N>>,
-    shape: Shape,
+    shape: FrontShape,
     rounds: u32,
-) -> Back<N> {
-    let mut around = Told::default();
+) -> SideResult<N> {
+    let mut around = Measurement::default();
     let ready = shape.ready_event();
     let pass = wait_for(rt, alloc, front, carried.into_hold(), ready, &mut around);
-    let mut told = Told::default();
+    let mut told = Measurement::default();
     let mut pass = rounds_of(rt, alloc, front, pass, &shape, rounds, &mut told);
     call(
         rt,
@@ -34,7 +34,7 @@ fn lead<N: Named, R: Wait + Clock>(
         &mut around,
     );
     told.wrong = told.wrong.wrapping_add(around.wrong);
-    Back {
+    SideResult {
         carried: Carried { hold: pass },
         told,
     }
@@ -46,9 +46,9 @@ fn rest<N: Named, R: Wait>(
     alloc: Global,
     front: &Front<N>,
     carried: Carried<Pass<N>>,
-    shape: Shape,
-) -> Back<N> {
-    let mut told = Told::default();
+    shape: FrontShape,
+) -> SideResult<N> {
+    let mut told = Measurement::default();
     let mut pass = carried.into_hold();
     call(
         rt,
@@ -58,7 +58,7 @@ fn rest<N: Named, R: Wait>(
         &mut told,
     );
     let pass = wait_for(rt, alloc, front, pass, shape.last_event(), &mut told);
-    Back {
+    SideResult {
         carried: Carried { hold: pass },
         told,
     }
@@ -71,9 +71,9 @@ pub fn beside<N: Named + Send + Sync, R: Threads + Wait + Clock + Sync>(
     front: &Front<N>,
     mut pass: Pass<N>,
     other: Carried<Pass<N>>,
-    shape: Shape,
+    shape: FrontShape,
     rounds: u32,
-    told: &mut Told,
+    told: &mut Measurement,
 ) -> Pass<N> {
     set_stage(rt, front, &mut pass, &shape, told);
     let one = Carried { hold: pass };
@@ -85,6 +85,6 @@ pub fn beside<N: Named + Send + Sync, R: Threads + Wait + Clock + Sync>(
     told.join(one.told);
     told.wrong = told.wrong.wrapping_add(two.told.wrong);
     told.nanos = one.told.nanos;
-    let Back { carried, told: _ } = one;
+    let SideResult { carried, told: _ } = one;
     carried.into_hold()
 }

@@ -19,7 +19,7 @@ mod workers;
 
 use measure::measure;
 use nt_front::PackedEntry;
-use shapes::{SHAPES, Shape, shape_named};
+use shapes::{FrontShape, SHAPES, shape_named};
 use std::alloc::Global;
 use std::env;
 use std::io::{self, Write};
@@ -28,7 +28,7 @@ use std::process::ExitCode;
 use std::sync::Wait;
 use std::thread::Threads;
 use std::time::Clock;
-use told::{Fault, Told};
+use told::{FrontBenchFault, Measurement};
 
 /// How often a round is made where nothing is timed.
 const FEW: u32 = 3;
@@ -37,11 +37,11 @@ const FEW: u32 = 3;
 #[derive(Clone, Copy)]
 enum Plan {
     Each,
-    Timed(Shape, u32),
+    Timed(FrontShape, u32),
 }
 
-fn plan_of(rt: &HostRuntime) -> Result<Plan, Fault> {
-    let mut words = env::args(rt).map_err(|_| Fault::Memory)?;
+fn plan_of(rt: &HostRuntime) -> Result<Plan, FrontBenchFault> {
+    let mut words = env::args(rt).map_err(|_| FrontBenchFault::Memory)?;
     let _program = words.next();
     let Some(name) = words.next() else {
         return Ok(Plan::Each);
@@ -52,11 +52,11 @@ fn plan_of(rt: &HostRuntime) -> Result<Plan, Fault> {
     };
     match (shape_named(name.as_str()), rounds) {
         (Some(shape), Some(rounds)) => Ok(Plan::Timed(shape, rounds)),
-        _ => Err(Fault::Usage),
+        _ => Err(FrontBenchFault::Usage),
     }
 }
 
-fn picoseconds(told: &Told) -> u128 {
+fn picoseconds(told: &Measurement) -> u128 {
     told.nanos.saturating_mul(1000) / (told.calls.max(1) as u128)
 }
 
@@ -64,13 +64,13 @@ fn picoseconds(told: &Told) -> u128 {
 fn run_few<R: Threads + Wait + Clock + Sync>(
     rt: &R,
     alloc: Global,
-    shape: Shape,
+    shape: FrontShape,
     out: &mut impl Write,
-) -> Result<(), Fault> {
+) -> Result<(), FrontBenchFault> {
     let told = measure(rt, alloc, shape, FEW)?;
     let (calls, grants) = (told.calls, told.grants);
     let printed = writeln!(out, "{}: {calls} calls, {grants} grants", shape.name);
-    printed.map_err(|_| Fault::Output)
+    printed.map_err(|_| FrontBenchFault::Output)
 }
 
 /// Prints the size of an entry, and makes a few rounds of each shape.
@@ -78,10 +78,10 @@ fn run_each<R: Threads + Wait + Clock + Sync>(
     rt: &R,
     alloc: Global,
     out: &mut impl Write,
-) -> Result<(), Fault> {
+) -> Result<(), FrontBenchFault> {
     let bytes = size_of::<PackedEntry>();
     let printed = writeln!(out, "an entry takes {bytes} bytes");
-    printed.map_err(|_| Fault::Output)?;
+    printed.map_err(|_| FrontBenchFault::Output)?;
     for shape in SHAPES {
         run_few(rt, alloc, *shape, out)?;
     }
@@ -92,20 +92,20 @@ fn run_each<R: Threads + Wait + Clock + Sync>(
 fn run_timed<R: Threads + Wait + Clock + Sync>(
     rt: &R,
     alloc: Global,
-    shape: Shape,
+    shape: FrontShape,
     rounds: u32,
     out: &mut impl Write,
-) -> Result<(), Fault> {
+) -> Result<(), FrontBenchFault> {
     let cold = measure(rt, alloc, shape, rounds)?;
     let warm = measure(rt, alloc, shape, rounds)?;
-    let Told { calls, grants, .. } = warm;
+    let Measurement { calls, grants, .. } = warm;
     let (first, then) = (picoseconds(&cold), picoseconds(&warm));
     writeln!(
         out,
         "{}: {calls} calls, {grants} grants, {first} ps a call at first, {then} ps a call then",
         shape.name
     )
-    .map_err(|_| Fault::Output)
+    .map_err(|_| FrontBenchFault::Output)
 }
 
 fn run<R: Threads + Wait + Clock + Sync>(
@@ -113,7 +113,7 @@ fn run<R: Threads + Wait + Clock + Sync>(
     alloc: Global,
     plan: Plan,
     out: &mut impl Write,
-) -> Result<(), Fault> {
+) -> Result<(), FrontBenchFault> {
     match plan {
         Plan::Each => run_each(rt, alloc, out),
         Plan::Timed(shape, rounds) => run_timed(rt, alloc, shape, rounds, out),

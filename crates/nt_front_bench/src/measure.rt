@@ -7,9 +7,9 @@ use crate::moves::{nanos_since, now};
 use crate::pair::round_trips;
 use crate::parts::{bare_lock, core_alone, core_and_journal};
 use crate::queue::one_of_64;
-use crate::shapes::{Company, Kind, Shape};
-use crate::told::{Fault, Told};
-use crate::workers::{Back, Objects, with_all};
+use crate::shapes::{Company, FrontShape, RoundKind};
+use crate::told::{FrontBenchFault, Measurement};
+use crate::workers::{WorkerObjects, WorkerResult, with_all};
 use nt_core::{Act, Call};
 use nt_front::{Blank, Carried, Front, Held, History, Named, Pass, ReadEntry, open, prepare};
 use nt_status::Handle;
@@ -23,29 +23,29 @@ use std::time::Clock;
 pub fn measure<R: Threads + Wait + Clock + Sync>(
     rt: &R,
     alloc: Global,
-    shape: Shape,
+    shape: FrontShape,
     rounds: u32,
-) -> Result<Told, Fault> {
+) -> Result<Measurement, FrontBenchFault> {
     let told = match shape.kind {
-        Kind::Core => core_alone(rt, alloc, rounds)?,
-        Kind::CoreAndJournal => core_and_journal(rt, alloc, rounds)?,
-        Kind::Lock => bare_lock(rt, rounds),
-        Kind::Workers(workers) => the_plan(rt, alloc, shape, workers, rounds)?,
+        RoundKind::Core => core_alone(rt, alloc, rounds)?,
+        RoundKind::CoreAndJournal => core_and_journal(rt, alloc, rounds)?,
+        RoundKind::Lock => bare_lock(rt, rounds),
+        RoundKind::Workers(workers) => the_plan(rt, alloc, shape, workers, rounds)?,
         _ => on_a_front(rt, alloc, shape, rounds)?,
     };
     if told.wrong == 0 {
         Ok(told)
     } else {
-        Err(Fault::Wrong)
+        Err(FrontBenchFault::Wrong)
     }
 }
 
 fn on_a_front<R: Threads + Wait + Clock + Sync>(
     rt: &R,
     alloc: Global,
-    shape: Shape,
+    shape: FrontShape,
     rounds: u32,
-) -> Result<Told, Fault> {
+) -> Result<Measurement, FrontBenchFault> {
     let threads = shape.threads();
     let blank = prepare(alloc, threads, shape.entries(rounds))?;
     on_passes::<Brand, _>(rt, alloc, blank, threads, shape, rounds)
@@ -73,9 +73,9 @@ fn on_passes<N: Named + Send + Sync, R: Threads + Wait + Clock + Sync>(
     alloc: Global,
     blank: Blank,
     threads: u32,
-    shape: Shape,
+    shape: FrontShape,
     rounds: u32,
-) -> Result<Told, Fault>
+) -> Result<Measurement, FrontBenchFault>
     requires { (blank ≡ N.front) × (blank.threads ≡ threads) }
 {
     match Vec::with_capacity(alloc, threads as usize) {
@@ -93,9 +93,9 @@ fn on_opened<N: Named + Send + Sync, R: Threads + Wait + Clock + Sync>(
     alloc: Global,
     blank: Blank,
     carriers: Vec<Carried<Pass<N>>>,
-    shape: Shape,
+    shape: FrontShape,
     rounds: u32,
-) -> Result<Told, Fault>
+) -> Result<Measurement, FrontBenchFault>
     requires blank { blank ≡ N.front }
     requires carriers { (carriers.items ≡ []) × (blank.threads ≤ vec_capacity carriers) }
 {
@@ -116,9 +116,9 @@ fn on_carriers<N: Named + Send + Sync, R: Threads + Wait + Clock + Sync>(
     alloc: Global,
     front: Front<N>,
     carriers: Vec<Carried<Pass<N>>>,
-    shape: Shape,
+    shape: FrontShape,
     rounds: u32,
-) -> Told {
+) -> Measurement {
     let mut carriers = carriers;
     rounds_of(rt, alloc, &front, &mut carriers, &shape, rounds)
 }
@@ -128,10 +128,10 @@ fn rounds_of<N: Named + Send + Sync, R: Threads + Wait + Clock + Sync>(
     alloc: Global,
     front: &Front<N>,
     carriers: &mut Vec<Carried<Pass<N>>>,
-    shape: &Shape,
+    shape: &FrontShape,
     rounds: u32,
-) -> Told {
-    let mut told = Told::default();
+) -> Measurement {
+    let mut told = Measurement::default();
     make_rounds(rt, alloc, front, carriers, shape, rounds, &mut told);
     told
 }
@@ -142,9 +142,9 @@ fn make_rounds<N: Named + Send + Sync, R: Threads + Wait + Clock + Sync>(
     alloc: Global,
     front: &Front<N>,
     carriers: &mut Vec<Carried<Pass<N>>>,
-    shape: &Shape,
+    shape: &FrontShape,
     rounds: u32,
-    told: &mut Told,
+    told: &mut Measurement,
 ) {
     let Some(first) = carriers.pop() else {
         told.wrong();
@@ -156,8 +156,10 @@ fn make_rounds<N: Named + Send + Sync, R: Threads + Wait + Clock + Sync>(
             Some(other) => pass = beside(rt, alloc, front, pass, other, *shape, rounds, told),
             None => told.wrong(),
         },
-        (_, Kind::OneOf64) => one_of_64(rt, alloc, front, &mut pass, carriers, shape, rounds, told),
-        (_, Kind::RoundTrip) => match carriers.pop() {
+        (_, RoundKind::OneOf64) => one_of_64(
+            rt, alloc, front, &mut pass, carriers, shape, rounds, told,
+        ),
+        (_, RoundKind::RoundTrip) => match carriers.pop() {
             Some(other) => pass = round_trips(rt, alloc, front, pass, other, shape, rounds, told),
             None => told.wrong(),
         },
@@ -170,20 +172,20 @@ fn make_rounds<N: Named + Send + Sync, R: Threads + Wait + Clock + Sync>(
 fn the_plan<R: Threads + Wait + Clock + Sync>(
     rt: &R,
     alloc: Global,
-    shape: Shape,
+    shape: FrontShape,
     workers: u32,
     rounds: u32,
-) -> Result<Told, Fault> {
+) -> Result<Measurement, FrontBenchFault> {
     let threads = shape.threads();
     let began = now(rt);
     let handles = handles_of(alloc, threads)?;
-    let objects = Objects::new(alloc, workers, rounds);
+    let objects = WorkerObjects::new(alloc, workers, rounds);
     let blank = prepare(alloc, threads, shape.entries(rounds))?;
     let mut told = planned::<Brand, _>(rt, alloc, blank, threads, handles.as_slice(), &objects)?;
     told.nanos = nanos_since(rt, began);
     let wanted = u64::from(workers).wrapping_mul(u64::from(rounds));
     if told.grants != wanted {
-        return Err(Fault::Wrong);
+        return Err(FrontBenchFault::Wrong);
     }
     // The calls of the rounds alone, as in C.
     told.calls = wanted.wrapping_mul(3);
@@ -207,11 +209,11 @@ fn releases(history: &History) -> u64 {
 }
 
 /// The handles of the workers, those of the threads but the first.
-fn handles_of(alloc: Global, threads: u32) -> Result<Vec<Handle>, Fault> {
+fn handles_of(alloc: Global, threads: u32) -> Result<Vec<Handle>, FrontBenchFault> {
     let mut handles = Vec::with_capacity(alloc, threads as usize)?;
     for number in 1..threads {
         if handles.push(Handle::new(number)).is_err() {
-            return Err(Fault::Memory);
+            return Err(FrontBenchFault::Memory);
         }
     }
     Ok(handles)
@@ -220,7 +222,7 @@ fn handles_of(alloc: Global, threads: u32) -> Result<Vec<Handle>, Fault> {
 /// Room for the carriers, for what comes back, and for what the threads hold at the end.
 struct Room<N: Named> {
     carriers: Vec<Carried<Pass<N>>>,
-    back: Vec<Back<N>>,
+    back: Vec<WorkerResult<N>>,
     holds: Vec<Held<N>>,
 }
 
@@ -261,8 +263,8 @@ fn planned<N: Named + Send + Sync, R: Threads + Wait + Clock + Sync>(
     blank: Blank,
     threads: u32,
     handles: &[Handle],
-    objects: &Objects,
-) -> Result<Told, Fault>
+    objects: &WorkerObjects,
+) -> Result<Measurement, FrontBenchFault>
     requires { (blank ≡ N.front) × (blank.threads ≡ threads) }
 {
     match Room::new(alloc, threads as usize) {
@@ -281,8 +283,8 @@ fn planned_in<N: Named + Send + Sync, R: Threads + Wait + Clock + Sync>(
     blank: Blank,
     room: Room<N>,
     handles: &[Handle],
-    objects: &Objects,
-) -> Result<Told, Fault>
+    objects: &WorkerObjects,
+) -> Result<Measurement, FrontBenchFault>
     requires blank { blank ≡ N.front }
     requires carriers { (room.carriers.items ≡ []) × (blank.threads ≤ vec_capacity room.carriers) }
     requires back { (room.back.items ≡ []) × (blank.threads ≤ vec_capacity room.back) }
@@ -304,8 +306,8 @@ fn planned_on<N: Named + Send + Sync, R: Threads + Wait + Clock + Sync>(
     passes: Vec<Pass<N>>,
     room: Room<N>,
     handles: &[Handle],
-    objects: &Objects,
-) -> Told
+    objects: &WorkerObjects,
+) -> Measurement
     requires carriers { (room.carriers.items ≡ []) × (vec_len passes ≤ vec_capacity room.carriers) }
     requires back { (room.back.items ≡ []) × (vec_len passes ≤ vec_capacity room.back) }
     requires holds { (room.holds.items ≡ []) × (vec_len passes ≤ vec_capacity room.holds) }

@@ -1,5 +1,5 @@
 //! Calls of a thread, counted. Each is inlined into its shape's loop, so that a round has no calls of the bench's own.
-use crate::told::Told;
+use crate::told::Measurement;
 use nt_core::{Act, Reply, WaitCall, WaitMode};
 use nt_front::{Begun, Front, Named, Pass, Waited};
 use nt_status::{Handle, Handles, INFINITE, Status};
@@ -28,7 +28,7 @@ pub fn call<N: Named, R: Wait>(
     front: &Front<N>,
     pass: &mut Pass<N>,
     act: Act,
-    told: &mut Told,
+    told: &mut Measurement,
 ) {
     match front.call(rt, pass, act) {
         Ok(receipt) => told.called(receipt.result.is_ok()),
@@ -55,7 +55,7 @@ pub fn wait_for<N: Named, R: Wait>(
     front: &Front<N>,
     pass: Pass<N>,
     object: Handle,
-    told: &mut Told,
+    told: &mut Measurement,
 ) -> Pass<N> {
     match objects(alloc, &[object], false, INFINITE) {
         Some(asked) => wait(rt, front, pass, asked, told),
@@ -73,7 +73,7 @@ pub fn wait<N: Named, R: Wait>(
     front: &Front<N>,
     pass: Pass<N>,
     asked: WaitCall,
-    told: &mut Told,
+    told: &mut Measurement,
 ) -> Pass<N> {
     match front.wait(rt, pass, asked) {
         Waited::Done(pass, receipt) => {
@@ -101,7 +101,7 @@ pub fn try_wait<N: Named, R: Wait>(
     pass: Pass<N>,
     handles: &[Handle],
     expected: Status,
-    told: &mut Told,
+    told: &mut Measurement,
 ) -> Pass<N> {
     let Some(asked) = objects(alloc, handles, false, 0) else {
         told.wrong();

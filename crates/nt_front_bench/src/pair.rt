@@ -1,8 +1,8 @@
 //! Two threads set each other's event and wait for their own.
 use crate::alone::set_stage;
 use crate::moves::{call, nanos_since, now, wait_for};
-use crate::shapes::Shape;
-use crate::told::Told;
+use crate::shapes::FrontShape;
+use crate::told::Measurement;
 use nt_core::Act;
 use nt_front::{Carried, Front, Named, Pass};
 use nt_status::Handle;
@@ -21,9 +21,9 @@ struct Side {
 
 /// What a thread brings back.
 #[derive(Drop)]
-pub struct Back<N: Named> {
+pub struct SideResult<N: Named> {
     pub carried: Carried<Pass<N>>,
-    pub told: Told,
+    pub told: Measurement,
 }
 
 /// Sets the other's event and waits for its own, in every round, and times them.
@@ -33,21 +33,21 @@ fn serve<N: Named, R: Wait + Clock>(
     front: &Front<N>,
     carried: Carried<Pass<N>>,
     side: Side,
-) -> Back<N> {
+) -> SideResult<N> {
     let Side {
         mine,
         other,
         rounds,
     } = side;
     let mut pass = carried.into_hold();
-    let mut told = Told::default();
+    let mut told = Measurement::default();
     let began = now(rt);
     for _ in 0..rounds {
         call(rt, front, &mut pass, Act::SetEvent(other), &mut told);
         pass = wait_for(rt, alloc, front, pass, mine, &mut told);
     }
     told.nanos = nanos_since(rt, began);
-    Back {
+    SideResult {
         carried: Carried { hold: pass },
         told,
     }
@@ -60,19 +60,19 @@ fn answer<N: Named, R: Wait>(
     front: &Front<N>,
     carried: Carried<Pass<N>>,
     side: Side,
-) -> Back<N> {
+) -> SideResult<N> {
     let Side {
         mine,
         other,
         rounds,
     } = side;
     let mut pass = carried.into_hold();
-    let mut told = Told::default();
+    let mut told = Measurement::default();
     for _ in 0..rounds {
         pass = wait_for(rt, alloc, front, pass, mine, &mut told);
         call(rt, front, &mut pass, Act::SetEvent(other), &mut told);
     }
-    Back {
+    SideResult {
         carried: Carried { hold: pass },
         told,
     }
@@ -85,9 +85,9 @@ pub fn round_trips<N: Named + Send + Sync, R: Threads + Wait + Clock + Sync>(
     front: &Front<N>,
     mut pass: Pass<N>,
     other: Carried<Pass<N>>,
-    shape: &Shape,
+    shape: &FrontShape,
     rounds: u32,
-    told: &mut Told,
+    told: &mut Measurement,
 ) -> Pass<N> {
     set_stage(rt, front, &mut pass, shape, told);
     let first = shape.first_handle();
@@ -113,6 +113,6 @@ pub fn round_trips<N: Named + Send + Sync, R: Threads + Wait + Clock + Sync>(
     // How many waits pended is up to the schedule.
     told.grants = 0;
     told.nanos = one.told.nanos;
-    let Back { carried, told: _ } = one;
+    let SideResult { carried, told: _ } = one;
     carried.into_hold()
 }

@@ -3,7 +3,7 @@ ghost use Rattle.std.specs.Prelude.{◌≡◌};
 ghost use Rattle.nt_mail.specs.Packed.{hands_apc};
 
 use crate::moves::{nanos_since, now, objects};
-use crate::told::{Fault, Told};
+use crate::told::{FrontBenchFault, Measurement};
 use nt_core::{Act, Call, Core, Reply};
 use nt_front::PackedEntry;
 use nt_status::{Handle, Refusal, Status, ThreadId};
@@ -18,15 +18,20 @@ fn set() -> Call {
     Call::Act(Act::SetEvent(Handle::new(EVENT)))
 }
 
-fn try_wait(alloc: Global) -> Result<Call, Fault> {
+fn try_wait(alloc: Global) -> Result<Call, FrontBenchFault> {
     match objects(alloc, &[Handle::new(EVENT)], false, 0) {
         Some(asked) => Ok(Call::Wait(asked)),
-        None => Err(Fault::Memory),
+        None => Err(FrontBenchFault::Memory),
     }
 }
 
 /// Sets the event, and takes it by a wait.
-fn core_rounds(core: &mut Core, alloc: Global, rounds: u32, told: &mut Told) -> Result<(), Fault> {
+fn core_rounds(
+    core: &mut Core,
+    alloc: Global,
+    rounds: u32,
+    told: &mut Measurement,
+) -> Result<(), FrontBenchFault> {
     for _ in 0..rounds {
         told.called(core.call(0, &set()).is_ok());
         let wait = try_wait(alloc)?;
@@ -49,17 +54,17 @@ fn write(
     core: &mut Core,
     journal: &mut Vec<PackedEntry>,
     call: Call,
-) -> Result<Result<Reply, Refusal>, Fault> {
+) -> Result<Result<Reply, Refusal>, FrontBenchFault> {
     let result = core.call(0, &call);
     if is_apc(&result) {
         drop(call);
-        return Err(Fault::Wrong);
+        return Err(FrontBenchFault::Wrong);
     }
     let told = result;
     let entry = PackedEntry::called(ThreadId::new(0), call, result);
     match journal.push(entry) {
         Ok(()) => Ok(told),
-        Err(_) => Err(Fault::Memory),
+        Err(_) => Err(FrontBenchFault::Memory),
     }
 }
 
@@ -68,8 +73,8 @@ fn written_rounds(
     journal: &mut Vec<PackedEntry>,
     alloc: Global,
     rounds: u32,
-    told: &mut Told,
-) -> Result<(), Fault> {
+    told: &mut Measurement,
+) -> Result<(), FrontBenchFault> {
     for _ in 0..rounds {
         told.called(write(core, journal, set())?.is_ok());
         let result = write(core, journal, try_wait(alloc)?)?;
@@ -79,14 +84,19 @@ fn written_rounds(
 }
 
 /// Creates the event.
-fn set_stage(core: &mut Core, told: &mut Told) {
+fn set_stage(core: &mut Core, told: &mut Measurement) {
     let created = core.call(0, &Call::Act(Act::CreateEvent(0)));
     told.called(created.is_ok());
     told.begin();
 }
 
-fn time_core<R: Clock>(rt: &R, core: &mut Core, alloc: Global, rounds: u32) -> Result<Told, Fault> {
-    let mut told = Told::default();
+fn time_core<R: Clock>(
+    rt: &R,
+    core: &mut Core,
+    alloc: Global,
+    rounds: u32,
+) -> Result<Measurement, FrontBenchFault> {
+    let mut told = Measurement::default();
     set_stage(core, &mut told);
     let began = now(rt);
     core_rounds(core, alloc, rounds, &mut told)?;
@@ -100,8 +110,8 @@ fn time_both<R: Clock>(
     journal: &mut Vec<PackedEntry>,
     alloc: Global,
     rounds: u32,
-) -> Result<Told, Fault> {
-    let mut told = Told::default();
+) -> Result<Measurement, FrontBenchFault> {
+    let mut told = Measurement::default();
     set_stage(core, &mut told);
     let began = now(rt);
     written_rounds(core, journal, alloc, rounds, &mut told)?;
@@ -110,7 +120,11 @@ fn time_both<R: Clock>(
 }
 
 /// The rounds on the dispatcher alone.
-pub fn core_alone<R: Clock>(rt: &R, alloc: Global, rounds: u32) -> Result<Told, Fault> {
+pub fn core_alone<R: Clock>(
+    rt: &R,
+    alloc: Global,
+    rounds: u32,
+) -> Result<Measurement, FrontBenchFault> {
     let mut core = Core::new(alloc, 1)?;
     let told = time_core(rt, &mut core, alloc, rounds);
     drop(core);
@@ -118,7 +132,11 @@ pub fn core_alone<R: Clock>(rt: &R, alloc: Global, rounds: u32) -> Result<Told, 
 }
 
 /// The rounds on the dispatcher, each call written into a journal.
-pub fn core_and_journal<R: Clock>(rt: &R, alloc: Global, rounds: u32) -> Result<Told, Fault> {
+pub fn core_and_journal<R: Clock>(
+    rt: &R,
+    alloc: Global,
+    rounds: u32,
+) -> Result<Measurement, FrontBenchFault> {
     let mut journal = Vec::with_capacity(alloc, (rounds as usize).saturating_mul(2))?;
     core_beside(rt, alloc, rounds, &mut journal)
 }
@@ -128,7 +146,7 @@ fn core_beside<R: Clock>(
     alloc: Global,
     rounds: u32,
     journal: &mut Vec<PackedEntry>,
-) -> Result<Told, Fault> {
+) -> Result<Measurement, FrontBenchFault> {
     let mut core = Core::new(alloc, 1)?;
     let told = time_both(rt, &mut core, journal, alloc, rounds);
     drop(core);
@@ -136,9 +154,9 @@ fn core_beside<R: Clock>(
 }
 
 /// A lock is taken and given back.
-pub fn bare_lock<R: Wait + Clock>(rt: &R, rounds: u32) -> Told {
+pub fn bare_lock<R: Wait + Clock>(rt: &R, rounds: u32) -> Measurement {
     let lock = Mutex::new(0_u64);
-    let mut told = Told::default();
+    let mut told = Measurement::default();
     let began = now(rt);
     for _ in 0..rounds {
         let mut held = lock.lock(rt);

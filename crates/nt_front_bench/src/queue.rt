@@ -1,8 +1,8 @@
 //! 64 threads wait for all of a common event and one of their own.
 use crate::alone::set_stage;
 use crate::moves::{call, nanos_since, now, objects};
-use crate::shapes::Shape;
-use crate::told::Told;
+use crate::shapes::FrontShape;
+use crate::told::Measurement;
 use nt_core::Act;
 use nt_front::{Begun, Carried, Front, Named, Pass, Polled, Sleeper};
 use nt_status::{Handle, INFINITE};
@@ -28,7 +28,7 @@ fn begin<N: Named, R: Wait>(
     front: &Front<N>,
     pass: Pass<N>,
     handles: &[Handle],
-    told: &mut Told,
+    told: &mut Measurement,
 ) -> Waiter<N> {
     let Some(asked) = objects(alloc, handles, true, INFINITE) else {
         return lost(pass, told);
@@ -43,7 +43,7 @@ fn begin<N: Named, R: Wait>(
     }
 }
 
-fn lost<N: Named>(pass: Pass<N>, told: &mut Told) -> Waiter<N> {
+fn lost<N: Named>(pass: Pass<N>, told: &mut Measurement) -> Waiter<N> {
     told.wrong();
     drop(Carried { hold: pass });
     Waiter::Lost
@@ -57,7 +57,7 @@ fn turn<N: Named, R: Wait>(
     pass: &mut Pass<N>,
     waiter: Waiter<N>,
     handles: &[Handle; 2],
-    told: &mut Told,
+    told: &mut Measurement,
 ) -> Waiter<N> {
     let Waiter::Waits(carried) = waiter else {
         told.wrong();
@@ -91,7 +91,7 @@ fn begin_all<N: Named, R: Wait>(
     others: &mut Vec<Carried<Pass<N>>>,
     waiters: &mut Vec<Waiter<N>>,
     first: u32,
-    told: &mut Told,
+    told: &mut Measurement,
 ) {
     for number in 0..WAITERS {
         match others.pop() {
@@ -105,7 +105,7 @@ fn begin_all<N: Named, R: Wait>(
     }
 }
 
-fn keep<N: Named>(waiters: &mut Vec<Waiter<N>>, waiter: Waiter<N>, told: &mut Told) {
+fn keep<N: Named>(waiters: &mut Vec<Waiter<N>>, waiter: Waiter<N>, told: &mut Measurement) {
     if waiters.push(waiter).is_err() {
         told.wrong();
     }
@@ -120,7 +120,7 @@ fn turns<N: Named, R: Wait>(
     waiters: &mut Vec<Waiter<N>>,
     first: u32,
     rounds: u32,
-    told: &mut Told,
+    told: &mut Measurement,
 ) {
     for round in 0..rounds {
         let number = round % WAITERS;
@@ -139,7 +139,7 @@ fn turn_at<N: Named, R: Wait>(
     pass: &mut Pass<N>,
     place: &mut Waiter<N>,
     handles: &[Handle; 2],
-    told: &mut Told,
+    told: &mut Measurement,
 ) {
     let waiter = mem::replace(place, Waiter::Lost);
     *place = turn(rt, alloc, front, pass, waiter, handles, told);
@@ -154,7 +154,7 @@ fn time_turns<N: Named, R: Wait + Clock>(
     waiters: &mut Vec<Waiter<N>>,
     first: u32,
     rounds: u32,
-    told: &mut Told,
+    told: &mut Measurement,
 ) {
     begin_all(rt, alloc, front, others, waiters, first, told);
     told.begin();
@@ -170,9 +170,9 @@ pub fn one_of_64<N: Named, R: Wait + Clock>(
     front: &Front<N>,
     pass: &mut Pass<N>,
     others: &mut Vec<Carried<Pass<N>>>,
-    shape: &Shape,
+    shape: &FrontShape,
     rounds: u32,
-    told: &mut Told,
+    told: &mut Measurement,
 ) {
     set_stage(rt, front, pass, shape, told);
     let first = shape.first_handle();

@@ -7,7 +7,7 @@ pub const CROWD_EVENTS: u32 = 10_000;
 
 /// What a round is.
 #[derive(Clone, Copy)]
-pub enum Kind {
+pub enum RoundKind {
     /// An auto-reset event is set, and a wait with timeout 0 takes it.
     Event,
     /// A free mutex is waited for and released.
@@ -46,141 +46,141 @@ pub enum Company {
 
 /// A round under its name, with what stands beside it.
 #[derive(Clone, Copy)]
-pub struct Shape {
+pub struct FrontShape {
     pub name: &'static str,
-    pub kind: Kind,
+    pub kind: RoundKind,
     pub company: Company,
 }
 
-pub const SHAPES: &[Shape] = &[
-    Shape {
+pub const SHAPES: &[FrontShape] = &[
+    FrontShape {
         name: "event",
-        kind: Kind::Event,
+        kind: RoundKind::Event,
         company: Company::Nothing,
     },
-    Shape {
+    FrontShape {
         name: "event_beside",
-        kind: Kind::Event,
+        kind: RoundKind::Event,
         company: Company::Sleeper,
     },
-    Shape {
+    FrontShape {
         name: "event_crowd",
-        kind: Kind::Event,
+        kind: RoundKind::Event,
         company: Company::Crowd,
     },
-    Shape {
+    FrontShape {
         name: "mutex",
-        kind: Kind::Mutex,
+        kind: RoundKind::Mutex,
         company: Company::Nothing,
     },
-    Shape {
+    FrontShape {
         name: "mutex_beside",
-        kind: Kind::Mutex,
+        kind: RoundKind::Mutex,
         company: Company::Sleeper,
     },
-    Shape {
+    FrontShape {
         name: "mutex_crowd",
-        kind: Kind::Mutex,
+        kind: RoundKind::Mutex,
         company: Company::Crowd,
     },
-    Shape {
+    FrontShape {
         name: "semaphore",
-        kind: Kind::Semaphore,
+        kind: RoundKind::Semaphore,
         company: Company::Nothing,
     },
-    Shape {
+    FrontShape {
         name: "semaphore_beside",
-        kind: Kind::Semaphore,
+        kind: RoundKind::Semaphore,
         company: Company::Sleeper,
     },
-    Shape {
+    FrontShape {
         name: "semaphore_crowd",
-        kind: Kind::Semaphore,
+        kind: RoundKind::Semaphore,
         company: Company::Crowd,
     },
-    Shape {
+    FrontShape {
         name: "any_of_64",
-        kind: Kind::AnyOf64,
+        kind: RoundKind::AnyOf64,
         company: Company::Nothing,
     },
-    Shape {
+    FrontShape {
         name: "any_of_64_crowd",
-        kind: Kind::AnyOf64,
+        kind: RoundKind::AnyOf64,
         company: Company::Crowd,
     },
-    Shape {
+    FrontShape {
         name: "one_of_64",
-        kind: Kind::OneOf64,
+        kind: RoundKind::OneOf64,
         company: Company::Nothing,
     },
-    Shape {
+    FrontShape {
         name: "one_of_64_crowd",
-        kind: Kind::OneOf64,
+        kind: RoundKind::OneOf64,
         company: Company::Crowd,
     },
-    Shape {
+    FrontShape {
         name: "tick_100",
-        kind: Kind::Ticks(100),
+        kind: RoundKind::Ticks(100),
         company: Company::Nothing,
     },
-    Shape {
+    FrontShape {
         name: "tick_10000",
-        kind: Kind::Ticks(10_000),
+        kind: RoundKind::Ticks(10_000),
         company: Company::Nothing,
     },
-    Shape {
+    FrontShape {
         name: "round_trip",
-        kind: Kind::RoundTrip,
+        kind: RoundKind::RoundTrip,
         company: Company::Nothing,
     },
-    Shape {
+    FrontShape {
         name: "round_trip_crowd",
-        kind: Kind::RoundTrip,
+        kind: RoundKind::RoundTrip,
         company: Company::Crowd,
     },
-    Shape {
+    FrontShape {
         name: "threads_2",
-        kind: Kind::Workers(2),
+        kind: RoundKind::Workers(2),
         company: Company::Nothing,
     },
-    Shape {
+    FrontShape {
         name: "threads_8",
-        kind: Kind::Workers(8),
+        kind: RoundKind::Workers(8),
         company: Company::Nothing,
     },
-    Shape {
+    FrontShape {
         name: "threads_64",
-        kind: Kind::Workers(64),
+        kind: RoundKind::Workers(64),
         company: Company::Nothing,
     },
-    Shape {
+    FrontShape {
         name: "core_alone",
-        kind: Kind::Core,
+        kind: RoundKind::Core,
         company: Company::Nothing,
     },
-    Shape {
+    FrontShape {
         name: "core_and_journal",
-        kind: Kind::CoreAndJournal,
+        kind: RoundKind::CoreAndJournal,
         company: Company::Nothing,
     },
-    Shape {
+    FrontShape {
         name: "bare_lock",
-        kind: Kind::Lock,
+        kind: RoundKind::Lock,
         company: Company::Nothing,
     },
-    Shape {
+    FrontShape {
         name: "rotate",
-        kind: Kind::Rotate,
+        kind: RoundKind::Rotate,
         company: Company::Nothing,
     },
-    Shape {
+    FrontShape {
         name: "rotate_crowd",
-        kind: Kind::Rotate,
+        kind: RoundKind::Rotate,
         company: Company::Crowd,
     },
 ];
 
-pub fn shape_named(name: &str) -> Option<Shape> {
+pub fn shape_named(name: &str) -> Option<FrontShape> {
     for shape in SHAPES {
         if shape.name == name {
             return Some(*shape);
@@ -189,14 +189,14 @@ pub fn shape_named(name: &str) -> Option<Shape> {
     None
 }
 
-impl Shape {
+impl FrontShape {
     /// How many threads the front has.
     pub fn threads(&self) -> u32 {
         match (self.company, self.kind) {
             (Company::Crowd, _) => MAX_THREADS,
-            (Company::Sleeper, _) | (_, Kind::RoundTrip) => 2,
-            (_, Kind::OneOf64) => 65,
-            (_, Kind::Workers(workers)) => workers.wrapping_add(1),
+            (Company::Sleeper, _) | (_, RoundKind::RoundTrip) => 2,
+            (_, RoundKind::OneOf64) => 65,
+            (_, RoundKind::Workers(workers)) => workers.wrapping_add(1),
             _ => 1,
         }
     }
@@ -227,12 +227,12 @@ impl Shape {
     /// How many entries the calls that set the stage and `rounds` rounds write at the most.
     pub fn entries(&self, rounds: u32) -> usize {
         let (stage, each) = match self.kind {
-            Kind::AnyOf64 => (64, 1),
-            Kind::Rotate => (8, 0),
-            Kind::OneOf64 => (256, 4),
-            Kind::Ticks(timers) => (timers.saturating_mul(2), 1),
-            Kind::RoundTrip => (8, 6),
-            Kind::Workers(workers) => (
+            RoundKind::AnyOf64 => (64, 1),
+            RoundKind::Rotate => (8, 0),
+            RoundKind::OneOf64 => (256, 4),
+            RoundKind::Ticks(timers) => (timers.saturating_mul(2), 1),
+            RoundKind::RoundTrip => (8, 6),
+            RoundKind::Workers(workers) => (
                 workers.saturating_mul(3).saturating_add(7),
                 workers.saturating_mul(4),
             ),

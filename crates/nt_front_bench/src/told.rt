@@ -4,7 +4,7 @@ use std::alloc::AllocError;
 
 /// Why a bench can't go on.
 #[derive(Clone, Copy, Debug)]
-pub enum Fault {
+pub enum FrontBenchFault {
     Memory,
     Refused(Refusal),
     /// A call answered something else than the shape expects.
@@ -13,28 +13,28 @@ pub enum Fault {
     Output,
 }
 
-impl From<AllocError> for Fault {
-    fn from(_: AllocError) -> Fault {
-        Fault::Memory
+impl From<AllocError> for FrontBenchFault {
+    fn from(_: AllocError) -> FrontBenchFault {
+        FrontBenchFault::Memory
     }
 }
 
-impl From<Refusal> for Fault {
-    fn from(refusal: Refusal) -> Fault {
-        Fault::Refused(refusal)
+impl From<Refusal> for FrontBenchFault {
+    fn from(refusal: Refusal) -> FrontBenchFault {
+        FrontBenchFault::Refused(refusal)
     }
 }
 
 /// How many calls were made and how many grants taken, how many answers were others than expected, and how long it took.
 #[derive(Clone, Copy, Default)]
-pub struct Told {
+pub struct Measurement {
     pub calls: u64,
     pub grants: u64,
     pub wrong: u64,
     pub nanos: u128,
 }
 
-impl Told {
+impl Measurement {
     /// A call that answered as expected, or not.
     pub fn called(&mut self, is_right: bool) {
         self.calls = self.calls.wrapping_add(1);
@@ -58,7 +58,7 @@ impl Told {
     }
 
     /// Adds what another thread did in the same time.
-    pub fn join(&mut self, other: Told) {
+    pub fn join(&mut self, other: Measurement) {
         self.calls = self.calls.wrapping_add(other.calls);
         self.grants = self.grants.wrapping_add(other.grants);
         self.wrong = self.wrong.wrapping_add(other.wrong);

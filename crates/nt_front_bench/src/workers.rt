@@ -2,7 +2,7 @@
 ghost use Rattle.std.specs.Prelude.{◌≡◌, ◌+◌, ◌<◌, ◌≤◌, [], vec_len, vec_capacity};
 
 use crate::moves::{call, objects, wait, wait_for};
-use crate::told::Told;
+use crate::told::Measurement;
 use nt_core::Act;
 use nt_front::{Carried, Exited, Front, Held, History, Named, Pass};
 use nt_status::{Handle, INFINITE};
@@ -12,7 +12,7 @@ use std::thread::{self, Promise, Scope, Threads};
 
 /// The objects of the plan.
 #[derive(Clone, Copy)]
-pub struct Objects {
+pub struct WorkerObjects {
     pub mutex: Handle,
     pub semaphore: Handle,
     pub start: Handle,
@@ -21,11 +21,11 @@ pub struct Objects {
     pub alloc: Global,
 }
 
-impl Objects {
+impl WorkerObjects {
     /// The handles after those of the threads, in the order of `create_all`.
-    pub fn new(alloc: Global, workers: u32, rounds: u32) -> Objects {
+    pub fn new(alloc: Global, workers: u32, rounds: u32) -> WorkerObjects {
         let threads = workers.wrapping_add(1);
-        Objects {
+        WorkerObjects {
             mutex: Handle::new(threads),
             semaphore: Handle::new(threads.wrapping_add(1)),
             start: Handle::new(threads.wrapping_add(2)),
@@ -38,23 +38,28 @@ impl Objects {
 
 /// What a thread brings back.
 #[derive(Drop)]
-pub struct Back<N: Named> {
+pub struct WorkerResult<N: Named> {
     pub held: Carried<Held<N>>,
-    pub told: Told,
+    pub told: Measurement,
 }
 
 /// Of what comes back nothing is promised.
 #[derive(Clone, Copy)]
-pub struct Nothing;
+pub struct NoPromise;
 
-impl<N: Named> Promise<Back<N>> for Nothing {
+impl<N: Named> Promise<WorkerResult<N>> for NoPromise {
     ghost use Rattle.std.specs.Prelude.{◌≡◌};
 
     ghost kept_by = { λ p r. p ≡ p };
 }
 
 /// Ends the thread.
-fn end<N: Named, R: Wait>(rt: &R, front: &Front<N>, pass: Pass<N>, mut told: Told) -> Back<N> {
+fn end<N: Named, R: Wait>(
+    rt: &R,
+    front: &Front<N>,
+    pass: Pass<N>,
+    mut told: Measurement,
+) -> WorkerResult<N> {
     let hold = match front.exit(rt, pass) {
         Exited::Ended(ended, _) => Held::Ended(ended),
         Exited::NoRoom(pass) => {
@@ -62,7 +67,7 @@ fn end<N: Named, R: Wait>(rt: &R, front: &Front<N>, pass: Pass<N>, mut told: Tol
             Held::Pass(pass)
         }
     };
-    Back {
+    WorkerResult {
         held: Carried { hold },
         told,
     }
@@ -73,9 +78,9 @@ fn work<N: Named, R: Wait>(
     rt: &R,
     front: &Front<N>,
     carried: Carried<Pass<N>>,
-    objects: &Objects,
-) -> Back<N> {
-    let mut told = Told::default();
+    objects: &WorkerObjects,
+) -> WorkerResult<N> {
+    let mut told = Measurement::default();
     let mut pass = wait_for(
         rt,
         objects.alloc,
@@ -113,8 +118,8 @@ fn create_all<N: Named, R: Wait>(
     rt: &R,
     front: &Front<N>,
     pass: &mut Pass<N>,
-    objects: &Objects,
-    told: &mut Told,
+    objects: &WorkerObjects,
+    told: &mut Measurement,
 ) {
     call(rt, front, pass, Act::CreateMutex(0), told);
     let maximum = objects.workers.wrapping_mul(objects.rounds);
@@ -132,9 +137,9 @@ fn lead<N: Named, R: Wait>(
     front: &Front<N>,
     carried: Carried<Pass<N>>,
     handles: &[Handle],
-    objects_of: &Objects,
-) -> Back<N> {
-    let mut told = Told::default();
+    objects_of: &WorkerObjects,
+) -> WorkerResult<N> {
+    let mut told = Measurement::default();
     let mut pass = carried.into_hold();
     call(
         rt,
@@ -157,10 +162,10 @@ fn start_each<'s, 'e: 's, N: Named + Send + Sync + 'e, R: Threads + Wait + Sync>
     front: &'e Front<N>,
     first: Carried<Pass<N>>,
     mut carriers: Vec<Carried<Pass<N>>>,
-    back: Vec<Back<N>>,
+    back: Vec<WorkerResult<N>>,
     handles: &'e [Handle],
-    objects: &'e Objects,
-) -> Vec<Back<N>>
+    objects: &'e WorkerObjects,
+) -> Vec<WorkerResult<N>>
     requires { vec_len back + vec_len carriers < vec_capacity back }
     ensures count { vec_len result ≤ vec_len back + vec_len carriers + 1 }
     ensures capacity { vec_capacity result ≡ vec_capacity back }
@@ -170,7 +175,7 @@ fn start_each<'s, 'e: 's, N: Named + Send + Sync + 'e, R: Threads + Wait + Sync>
         back.push_reserved(lead(rt, front, first, handles, objects));
         return back;
     };
-    match scope.spawn_with(Nothing, move || work(rt, front, carried, objects)) {
+    match scope.spawn_with(NoPromise, move || work(rt, front, carried, objects)) {
         Ok(child) => {
             let mut back = start_each(scope, rt, front, first, carriers, back, handles, objects);
             back.push_reserved(child.join(rt));
@@ -186,17 +191,17 @@ fn start_all<N: Named + Send + Sync, R: Threads + Wait + Sync>(
     front: &Front<N>,
     first: Carried<Pass<N>>,
     carriers: Vec<Carried<Pass<N>>>,
-    back: Vec<Back<N>>,
+    back: Vec<WorkerResult<N>>,
     handles: &[Handle],
-    objects: &Objects,
-) -> Vec<Back<N>>
+    objects: &WorkerObjects,
+) -> Vec<WorkerResult<N>>
     requires { vec_len back + vec_len carriers < vec_capacity back }
     ensures { vec_len result ≤ vec_len back + vec_len carriers + 1 }
 {
     thread::scope(
         thread::scope_env(),
         rt,
-        move |scope| -> Vec<Back<N>>
+        move |scope| -> Vec<WorkerResult<N>>
             requires { vec_len back + vec_len carriers < vec_capacity back }
             ensures { vec_len result ≤ vec_len back + vec_len carriers + 1 }
         { start_each(scope, rt, front, first, carriers, back, handles, objects) },
@@ -208,15 +213,15 @@ pub fn with_all<N: Named + Send + Sync, R: Threads + Wait + Sync>(
     rt: &R,
     front: Front<N>,
     mut carriers: Vec<Carried<Pass<N>>>,
-    back: Vec<Back<N>>,
+    back: Vec<WorkerResult<N>>,
     holds: Vec<Held<N>>,
     handles: &[Handle],
-    objects: &Objects,
-) -> (History, Told)
+    objects: &WorkerObjects,
+) -> (History, Measurement)
     requires back { (vec_len back ≡ 0) × (vec_len carriers ≤ vec_capacity back) }
     requires holds { (holds.items ≡ []) × (vec_len carriers ≤ vec_capacity holds) }
 {
-    let mut told = Told::default();
+    let mut told = Measurement::default();
     let Some(first) = carriers.pop() else {
         told.wrong();
         return (front.finish(holds), told);
@@ -231,14 +236,14 @@ pub fn with_all<N: Named + Send + Sync, R: Threads + Wait + Sync>(
 /// Puts the holds of all threads together, and ends the front.
 fn finish<N: Named>(
     front: Front<N>,
-    mut back: Vec<Back<N>>,
+    mut back: Vec<WorkerResult<N>>,
     mut holds: Vec<Held<N>>,
-    told: &mut Told,
+    told: &mut Measurement,
 ) -> History
     requires { (holds.items ≡ []) × (vec_len back ≤ vec_capacity holds) }
 {
     while let Some(one) = back.pop() {
-        let Back { held, told: known } = one;
+        let WorkerResult { held, told: known } = one;
         told.join(known);
         holds.push_reserved(held.into_hold());
     }
