@@ -1,5 +1,5 @@
 //! The clock: a thread that ticks.
-use crate::fault::Fault;
+use crate::fault::FrontExampleFault;
 use crate::host::Host;
 use crate::part::replay_part;
 use crate::shared::Shared;
@@ -15,7 +15,7 @@ pub fn tick_along<N: Named, R: Host>(
     rt: &R,
     pass: Pass<N>,
     shared: &Shared,
-) -> (Held<N>, Result<(), Fault>) {
+) -> (Held<N>, Result<(), FrontExampleFault>) {
     let calls = Calls::of(front, rt);
     let (mut pass, ticked) = tick_all(&calls, rt, pass);
     // Whatever happened, the others are to stop.
@@ -27,11 +27,11 @@ pub fn tick_along<N: Named, R: Host>(
 
 /// The first of these that went wrong.
 fn all_of(
-    ticked: Result<(), Fault>,
+    ticked: Result<(), FrontExampleFault>,
     stopped: Result<Told<()>, Refused>,
-    replayed: Result<(), Fault>,
+    replayed: Result<(), FrontExampleFault>,
     ended: Result<Told<()>, Refused>,
-) -> Result<(), Fault> {
+) -> Result<(), FrontExampleFault> {
     ticked?;
     stopped?;
     replayed?;
@@ -44,11 +44,11 @@ fn tick_all<N: Named, R: Host>(
     calls: &Calls<'_, '_, N, R>,
     rt: &R,
     pass: Pass<N>,
-) -> (Pass<N>, Result<(), Fault>) {
+) -> (Pass<N>, Result<(), FrontExampleFault>) {
     let mut pass = pass;
     let began = match Instant::now(rt) {
         Ok(began) => began,
-        Err(_) => return (pass, Err(Fault::Host)),
+        Err(_) => return (pass, Err(FrontExampleFault::Host)),
     };
     for _ in 0..u64::MAX {
         if let Err(fault) = tick(calls, rt, &mut pass, began) {
@@ -73,10 +73,10 @@ fn tick<N: Named, R: Host>(
     rt: &R,
     pass: &mut Pass<N>,
     began: Instant,
-) -> Result<(), Fault> {
+) -> Result<(), FrontExampleFault> {
     let ms = u32::try_from(began.elapsed(rt)?.as_millis()).unwrap_or(u32::MAX);
     let Some(moment) = Moment::ZERO.after_ms(ms) else {
-        return Err(Fault::Host);
+        return Err(FrontExampleFault::Host);
     };
     calls.tick_to(pass, moment)?;
     Ok(())

@@ -5,7 +5,7 @@ use nt_status::Refusal;
 use std::io;
 
 #[derive(Clone, Copy, Debug)]
-pub enum Fault {
+pub enum FrontExampleFault {
     /// A call was refused that should not be; for memory, in most cases.
     Refused(Refusal),
     /// The journal does not make the same run again, from the entry at this place on.
@@ -14,30 +14,30 @@ pub enum Fault {
     Host,
 }
 
-impl From<Refusal> for Fault {
-    fn from(refusal: Refusal) -> Fault {
-        Fault::Refused(refusal)
+impl From<Refusal> for FrontExampleFault {
+    fn from(refusal: Refusal) -> FrontExampleFault {
+        FrontExampleFault::Refused(refusal)
     }
 }
 
-impl From<Refused> for Fault {
-    fn from(refused: Refused) -> Fault {
-        Fault::Refused(refused.cause())
+impl From<Refused> for FrontExampleFault {
+    fn from(refused: Refused) -> FrontExampleFault {
+        FrontExampleFault::Refused(refused.cause())
     }
 }
 
 /// A journal in which a call was refused for memory, or one that finds none, can't be made again as it was.
-impl From<Unreplayed> for Fault {
-    fn from(cause: Unreplayed) -> Fault {
+impl From<Unreplayed> for FrontExampleFault {
+    fn from(cause: Unreplayed) -> FrontExampleFault {
         match cause {
-            Unreplayed::Differs(place) => Fault::Differs(place),
-            Unreplayed::Memory(_) => Fault::Refused(Refusal::Memory),
+            Unreplayed::Differs(place) => FrontExampleFault::Differs(place),
+            Unreplayed::Memory(_) => FrontExampleFault::Refused(Refusal::Memory),
         }
     }
 }
 
-impl From<io::Error> for Fault {
-    fn from(_: io::Error) -> Fault {
-        Fault::Host
+impl From<io::Error> for FrontExampleFault {
+    fn from(_: io::Error) -> FrontExampleFault {
+        FrontExampleFault::Host
     }
 }

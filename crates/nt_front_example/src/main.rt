@@ -11,7 +11,7 @@ mod shared;
 mod starting;
 mod work;
 
-use fault::Fault;
+use fault::FrontExampleFault;
 use running::run;
 use std::io::{self, Write};
 use std::process::ExitCode;
@@ -20,7 +20,7 @@ fn main(rt: HostRuntime) -> ExitCode {
     let mut out = io::writer(&rt);
     match run(&rt, &mut out) {
         Ok(()) => ExitCode::SUCCESS,
-        Err(Fault::Refused(refusal)) => {
+        Err(FrontExampleFault::Refused(refusal)) => {
             let _ = writeln!(out, "refused: {refusal}");
             ExitCode::FAILURE
         }

@@ -1,10 +1,10 @@
 //! A front is opened under its name, its threads run, and it ends.
 ghost use Rattle.std.specs.Prelude.{◌≡◌, ◌≤◌, ◌<◌, ◌+◌, [], vec_len, vec_capacity};
 
-use crate::fault::Fault;
+use crate::fault::FrontExampleFault;
 use crate::host::Host;
 use crate::part::replay_rest;
-use crate::starting::{AllBack, Others, run_threads};
+use crate::starting::{AllResults, Others, run_threads};
 use nt_front::{Blank, Carried, Front, Held, Named, Pass, open, prepare_lasting};
 use std::io::Write;
 use std::marker::Brand;
@@ -16,7 +16,7 @@ const THREADS: u32 = 4;
 const ROOM: usize = 50_000;
 
 /// Runs the threads, and writes what they did.
-pub fn run<R: Host>(rt: &R, out: &mut impl Write) -> Result<(), Fault> {
+pub fn run<R: Host>(rt: &R, out: &mut impl Write) -> Result<(), FrontExampleFault> {
     let blank = prepare_lasting(rt.alloc(), THREADS, ROOM)?;
     let pieces = run_named::<Brand, R>(rt, blank)?;
     writeln!(out, "{pieces} pieces of work were done")?;
@@ -25,14 +25,17 @@ pub fn run<R: Host>(rt: &R, out: &mut impl Write) -> Result<(), Fault> {
 }
 
 /// Runs the threads on the front that has this name.
-fn run_named<N: Named + Send + Sync, R: Host>(rt: &R, blank: Blank) -> Result<u32, Fault>
+fn run_named<N: Named + Send + Sync, R: Host>(
+    rt: &R,
+    blank: Blank,
+) -> Result<u32, FrontExampleFault>
     requires { (blank ≡ N.front) × (blank.threads ≡ THREADS) }
 {
     let holds = match Vec::with_capacity(rt.alloc(), THREADS as usize) {
         Ok(holds) => holds,
         Err(refused) => {
             drop(blank);
-            return Err(Fault::Refused(refused.into()));
+            return Err(FrontExampleFault::Refused(refused.into()));
         }
     };
     match open::<N>(rt.alloc(), blank) {
@@ -50,7 +53,7 @@ fn run_on<N: Named + Send + Sync, R: Host>(
     front: Front<N>,
     passes: Vec<Pass<N>>,
     holds: Vec<Held<N>>,
-) -> Result<u32, Fault>
+) -> Result<u32, FrontExampleFault>
     requires passes { vec_len passes ≡ 4 }
     requires holds { (holds.items ≡ []) × (4 ≤ vec_capacity holds) }
 {
@@ -74,7 +77,7 @@ fn run_all<N: Named + Send + Sync, R: Host>(
     front: &Front<N>,
     mut passes: Vec<Pass<N>>,
     holds: Vec<Held<N>>,
-) -> (Vec<Held<N>>, Result<u32, Fault>)
+) -> (Vec<Held<N>>, Result<u32, FrontExampleFault>)
     requires passes { vec_len passes ≡ 4 }
     requires holds { (holds.items ≡ []) × (4 ≤ vec_capacity holds) }
 {
@@ -103,12 +106,12 @@ fn carried<N: Named>(passes: &mut Vec<Pass<N>>) -> Carried<Pass<N>>
 
 /// What all threads hold at the end, and how many pieces of work they did.
 fn put_together<N: Named>(
-    back: AllBack<N>,
+    back: AllResults<N>,
     mut holds: Vec<Held<N>>,
-) -> (Vec<Held<N>>, Result<u32, Fault>)
+) -> (Vec<Held<N>>, Result<u32, FrontExampleFault>)
     requires { (holds.items ≡ []) × (4 ≤ vec_capacity holds) }
 {
-    let AllBack {
+    let AllResults {
         clock,
         ticked,
         one,
@@ -124,7 +127,10 @@ fn put_together<N: Named>(
 }
 
 /// How many pieces of work were done, if no call was refused.
-fn pieces_of(ticked: Result<(), Fault>, done: [Result<u32, Fault>; 3]) -> Result<u32, Fault> {
+fn pieces_of(
+    ticked: Result<(), FrontExampleFault>,
+    done: [Result<u32, FrontExampleFault>; 3],
+) -> Result<u32, FrontExampleFault> {
     let mut pieces = 0_u32;
     for one in done {
         pieces = pieces.saturating_add(one?);

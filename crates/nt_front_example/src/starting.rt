@@ -1,9 +1,9 @@
 //! The threads start, one after another, and the clock runs beside them.
 use crate::clock::tick_along;
-use crate::fault::Fault;
+use crate::fault::FrontExampleFault;
 use crate::host::Host;
 use crate::shared::Shared;
-use crate::work::{Back, live};
+use crate::work::{ThreadResult, live};
 use nt_front::{Carried, Front, Held, Named, Pass};
 use nt_front_calls::{Calls, Refused};
 use std::thread::{self, JoinHandle, Scope};
@@ -11,12 +11,12 @@ use std::thread::{self, JoinHandle, Scope};
 /// A thread that was started, or what it brought back where no thread could be made and this one lived its life.
 #[derive(Drop)]
 enum Started<N: Named> {
-    Runs(JoinHandle<Back<N>>),
-    Lived(Back<N>),
+    Runs(JoinHandle<ThreadResult<N>>),
+    Lived(ThreadResult<N>),
 }
 
 impl<N: Named + Send> Started<N> {
-    fn join(self, rt: &impl Host) -> Back<N> {
+    fn join(self, rt: &impl Host) -> ThreadResult<N> {
         match self {
             Started::Runs(child) => child.join(rt),
             Started::Lived(back) => back,
@@ -54,12 +54,12 @@ pub struct Others<N: Named> {
 
 /// What the clock and the three others bring back.
 #[derive(Drop)]
-pub struct AllBack<N: Named> {
+pub struct AllResults<N: Named> {
     pub clock: Carried<Held<N>>,
-    pub ticked: Result<(), Fault>,
-    pub one: Back<N>,
-    pub two: Back<N>,
-    pub three: Back<N>,
+    pub ticked: Result<(), FrontExampleFault>,
+    pub one: ThreadResult<N>,
+    pub two: ThreadResult<N>,
+    pub three: ThreadResult<N>,
 }
 
 /// Starts the threads of these passes, and ticks until they have ended.
@@ -70,14 +70,14 @@ fn start_in<'s, 'e: 's, N: Named + Send + Sync + 'e, R: Host>(
     clock: Pass<N>,
     others: Others<N>,
     shared: &'e Shared,
-) -> AllBack<N> {
+) -> AllResults<N> {
     let mut clock = clock;
     let Others { one, two, three } = others;
     let three = start(scope, front, rt, &mut clock, three, shared);
     let two = start(scope, front, rt, &mut clock, two, shared);
     let one = start(scope, front, rt, &mut clock, one, shared);
     let (clock, ticked) = tick_along(front, rt, clock, shared);
-    AllBack {
+    AllResults {
         clock: Carried { hold: clock },
         ticked,
         one: one.join(rt),
@@ -92,7 +92,7 @@ pub fn run_threads<N: Named + Send + Sync, R: Host>(
     rt: &R,
     clock: Carried<Pass<N>>,
     others: Others<N>,
-) -> Result<AllBack<N>, Refused> {
+) -> Result<AllResults<N>, Refused> {
     let mut pass = clock.into_hold();
     let created = Shared::create(&Calls::of(front, rt), &mut pass);
     let clock = Carried { hold: pass };
@@ -107,7 +107,7 @@ fn start_all<N: Named + Send + Sync, R: Host>(
     clock: Carried<Pass<N>>,
     others: Others<N>,
     shared: &Shared,
-) -> AllBack<N> {
+) -> AllResults<N> {
     thread::scope(thread::scope_env(), rt, move |scope| {
         start_in(scope, front, rt, clock.into_hold(), others, shared)
     })

@@ -1,5 +1,5 @@
 //! What the threads do: thread 1 hands out work, and the others do it, one that sleeps meanwhile and one that polls.
-use crate::fault::Fault;
+use crate::fault::FrontExampleFault;
 use crate::host::Host;
 use crate::shared::{PIECES, Shared};
 use nt_front::{Carried, Front, Held, Named, Pass, Sleeper};
@@ -8,23 +8,23 @@ use nt_status::{Handle, Refusal, Status};
 
 /// What a thread brings back: what it holds at its end, and how many pieces of work it did.
 #[derive(Drop)]
-pub struct Back<N: Named> {
+pub struct ThreadResult<N: Named> {
     pub held: Carried<Held<N>>,
-    pub done: Result<u32, Fault>,
+    pub done: Result<u32, FrontExampleFault>,
 }
 
-impl<N: Named> Back<N> {
+impl<N: Named> ThreadResult<N> {
     /// The same, of a thread that was to run beside the others and could not.
-    pub fn in_vain(self) -> Back<N> {
-        let Back { held, done: _ } = self;
-        Back {
+    pub fn in_vain(self) -> ThreadResult<N> {
+        let ThreadResult { held, done: _ } = self;
+        ThreadResult {
             held,
-            done: Err(Fault::Refused(Refusal::Memory)),
+            done: Err(FrontExampleFault::Refused(Refusal::Memory)),
         }
     }
 
     pub fn into_held(self) -> Held<N> {
-        let Back { held, done: _ } = self;
+        let ThreadResult { held, done: _ } = self;
         held.into_hold()
     }
 }
@@ -35,7 +35,7 @@ pub fn live<N: Named, R: Host>(
     rt: &R,
     carried: Carried<Pass<N>>,
     shared: &Shared,
-) -> Back<N> {
+) -> ThreadResult<N> {
     let calls = Calls::of(front, rt);
     let pass = carried.into_hold();
     let (pass, done) = match pass.thread().get() {
@@ -44,13 +44,13 @@ pub fn live<N: Named, R: Host>(
         _ => follow_by_polls(&calls, pass, shared),
     };
     let (hold, ended) = calls.exit(pass);
-    Back {
+    ThreadResult {
         held: Carried { hold },
         done: told(ended.and(done)),
     }
 }
 
-fn told(done: Result<u32, Refused>) -> Result<u32, Fault> {
+fn told(done: Result<u32, Refused>) -> Result<u32, FrontExampleFault> {
     Ok(done?)
 }
 
