@@ -4,8 +4,8 @@ use Rattle.std.specs.Str.{bytes_eq}
 use Rattle.nt_lines.specs.Options.{ends_options, is_operand}
 use Rattle.nt_lines.specs.Words.{digits_number}
 use Rattle.nt_threads.specs.declared.plan.TheConstants.{MOST_ROUNDS, MOST_WORKERS}
-use Rattle.nt_commands.specs.declared.plan.Plan.{Plan}
-use Rattle.nt_commands.specs.declared.plan.Plan.TheVariants.{Script, Threads}
+use Rattle.nt_commands.specs.declared.plan.CommandPlan.{CommandPlan}
+use Rattle.nt_commands.specs.declared.plan.CommandPlan.TheVariants.{Script, Threads}
 use Rattle.nt_commands.specs.declared.plan.PlanFault.{PlanFault}
 use Rattle.nt_commands.specs.declared.plan.PlanFault.TheVariants.{Usage, Memory}
 
@@ -75,7 +75,7 @@ FindsFile asked (Err Usage) = asked ≡ None
 FindsFile asked (Err Memory) = Unit {0}
 
 -- The plan is to run the file or the threads that are asked for; the usage is told only where neither is; and out of memory is no other answer.
-abbrev pub PlansBy : List (List ℕ) → Result Plan PlanFault → Type 0
+abbrev pub PlansBy : List (List ℕ) → Result CommandPlan PlanFault → Type 0
 PlansBy words (Ok (Script file)) = file_asked words ≡ Some (string_bytes file)
 PlansBy words (Ok (Threads workers rounds)) = threads_asked words ≡ Some (workers, rounds)
 PlansBy words (Err Usage) = (file_asked words ≡ None) × (threads_asked words ≡ None)

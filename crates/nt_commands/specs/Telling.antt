@@ -3,8 +3,8 @@ use Rattle.std.specs.Prelude.{◌≡◌, ◌⊎◌, ℕ, true, false, List, Resu
 use Rattle.std.specs.Io.KnownBytes.{Appends, Keeps}
 use Rattle.nt_devices.specs.Device.{AppendsPart, Says, Writing, one_more}
 use Rattle.nt_threads.specs.Reports.{IsThreadsReport}
-use Rattle.nt_commands.specs.declared.plan.Plan.{Plan}
-use Rattle.nt_commands.specs.declared.plan.Plan.TheVariants.{Script, Threads}
+use Rattle.nt_commands.specs.declared.plan.CommandPlan.{CommandPlan}
+use Rattle.nt_commands.specs.declared.plan.CommandPlan.TheVariants.{Script, Threads}
 use Rattle.nt_commands.specs.declared.plan.PlanFault.{PlanFault}
 use Rattle.nt_commands.specs.declared.plan.PlanFault.TheVariants.{Usage, Memory}
 use Rattle.nt_commands.specs.CommandLine.{are_lawful_counts}
@@ -49,7 +49,7 @@ PrintThreadsEnd workers rounds errors errors' status =
     ⊎ ((writer writer' : Writing) × ThreadsEnd workers rounds writer writer' errors errors' status)
 
 -- A file or threads were run; or the usage was told, or that memory ran out.
-abbrev pub PlanEnds : Result Plan PlanFault → (errors errors' : Writing) → (status : ℕ) → Type 0
+abbrev pub PlanEnds : Result CommandPlan PlanFault → (errors errors' : Writing) → (status : ℕ) → Type 0
 PlanEnds (Ok (Script file)) errors errors' status = PrintEnds errors errors' status
 PlanEnds (Ok (Threads workers rounds)) errors errors' status = PrintThreadsEnd workers rounds errors errors' status
 PlanEnds (Err Usage) errors errors' status = Says errors errors' (with_feed usage) × (status ≡ 2)

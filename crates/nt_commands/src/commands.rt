@@ -4,7 +4,7 @@ ghost use Rattle.nt_commands.specs.Ending.{PrintEnds};
 ghost use Rattle.nt_commands.specs.Telling.{PlanEnds, PrintThreadsEnd};
 
 use crate::errors::{OUT_OF_MEMORY, USAGE, say};
-use crate::plan::{Plan, PlanFault};
+use crate::plan::{CommandPlan, PlanFault};
 use crate::script::run_file;
 use crate::threads::threads_over;
 use nt_devices::{Counted, Sink};
@@ -48,14 +48,14 @@ fn print_threads<R: AllocGlobal + Print + Threads + Wait + Sync, E: Sink>(
 /// Does what was planned, and answers the exit status. What is not done is said on `errors`.
 pub fn carry_out<R: Files + AllocGlobal + Print + Threads + Wait + Sync, E: Sink>(
     rt: &R,
-    plan: Result<Plan, PlanFault>,
+    plan: Result<CommandPlan, PlanFault>,
     errors: &mut E,
 ) -> u8
     ensures { PlanEnds plan (E.seen errors.old) (E.seen errors.new) result }
 {
     match plan {
-        Ok(Plan::Script(path)) => print_file(rt, path.as_str(), errors),
-        Ok(Plan::Threads { workers, rounds }) => print_threads(rt, workers, rounds, errors),
+        Ok(CommandPlan::Script(path)) => print_file(rt, path.as_str(), errors),
+        Ok(CommandPlan::Threads { workers, rounds }) => print_threads(rt, workers, rounds, errors),
         Err(PlanFault::Usage) => say(errors, USAGE, 2),
         Err(PlanFault::Memory) => say(errors, OUT_OF_MEMORY, 1),
     }

@@ -22,6 +22,6 @@ mod script;
 mod threads;
 
 pub use commands::carry_out;
-pub use plan::{Plan, PlanFault, plan_of};
+pub use plan::{CommandPlan, PlanFault, plan_of};
 pub use script::{run_file, script_over};
 pub use threads::threads_over;

@@ -13,7 +13,7 @@ use std::alloc::{AllocError, Global};
 
 /// What the program is to do.
 #[derive(Debug, Drop)]
-pub enum Plan {
+pub enum CommandPlan {
     /// Run the script in this file.
     Script(String),
     /// Run `workers` threads beside the first one, each for `rounds` rounds.
@@ -43,13 +43,13 @@ fn command<'a>(alloc: Global) -> Result<Command<'a>, AllocError>
 }
 
 /// What the words ask for, the program's own name first.
-pub fn plan_of(alloc: Global, words: &[String]) -> Result<Plan, PlanFault>
+pub fn plan_of(alloc: Global, words: &[String]) -> Result<CommandPlan, PlanFault>
     ensures { PlansBy (map string_bytes words.now) result }
 {
     match threads_in(words) {
-        Some((workers, rounds)) => Ok(Plan::Threads { workers, rounds }),
+        Some((workers, rounds)) => Ok(CommandPlan::Threads { workers, rounds }),
         None => match file_in(alloc, words) {
-            Ok(file) => Ok(Plan::Script(file)),
+            Ok(file) => Ok(CommandPlan::Script(file)),
             Err(fault) => Err(fault),
         },
     }

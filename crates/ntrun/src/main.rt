@@ -2,7 +2,7 @@
 //! `ntrun script FILE` runs a script to standard output, and `ntrun threads N ROUNDS` runs real threads and tells of them.
 #![tactic(auto)]
 
-use nt_commands::{Plan, PlanFault, carry_out, plan_of};
+use nt_commands::{CommandPlan, PlanFault, carry_out, plan_of};
 use nt_devices::{Counted, Sink};
 use nt_faults::{Told, explain, told_by};
 use std::alloc::AllocError;
@@ -43,7 +43,7 @@ fn explain_fault<R: AllocGlobal + Files, E: Sink>(
     told: &Told,
     errors: &mut E,
 ) -> u8 {
-    if let Ok(Plan::Script(path)) = plan_of(rt.alloc(), words) {
+    if let Ok(CommandPlan::Script(path)) = plan_of(rt.alloc(), words) {
         explain(rt, path.as_str(), told, errors);
     }
     2
