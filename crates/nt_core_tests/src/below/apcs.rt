@@ -1,7 +1,7 @@
 //! Queues of APCs, and the places that they keep for timers.
 
 use crate::expect::{expect, expect_equal};
-use crate::tests::memory::{Host, walk_at_last};
+use crate::tests::memory::{CoreHost, walk_at_last};
 use nt_apc::{Apc, ApcQueues};
 use nt_status::{Moment, ObjectNumber, OptionalMoment, Refusal, ThreadId};
 use std::test::Fail;
@@ -26,7 +26,7 @@ fn next(apcs: &mut ApcQueues, t: ThreadId) -> Option<u64> {
 
 /// They come in this order, in a copy too, which has the timer's place.
 fn take_in_turn(
-    rt: &impl Host,
+    rt: &impl CoreHost,
     apcs: &mut ApcQueues,
     t: ThreadId,
     timer: ObjectNumber,
@@ -42,7 +42,7 @@ fn take_in_turn(
 
 /// The thread queues an APC, its timer expires at the place that it was promised, and the thread queues one more.
 fn queue(
-    rt: &impl Host,
+    rt: &impl CoreHost,
     apcs: &mut ApcQueues,
     t: ThreadId,
     timer: ObjectNumber,

@@ -1,7 +1,7 @@
 //! Lines that a slow reader gives.
 
 use crate::expect::expect_equal;
-use crate::tests::memory::{Host, walk_at_last};
+use crate::tests::memory::{CoreHost, walk_at_last};
 use nt_devices::Counted;
 use nt_lines::{Ending, Input, MAX_LINE, put};
 use nt_status::Refusal;
@@ -26,7 +26,7 @@ impl<'a> Read for Slow<'a> {
 
 /// Reads the next line, and puts a word in its place.
 fn read_line(
-    rt: &impl Host,
+    rt: &impl CoreHost,
     input: &mut Input,
     reader: &mut Counted<Slow<'_>>,
     wanted: (&[u8], Ending),
@@ -41,7 +41,7 @@ fn read_line(
     Ok(())
 }
 
-fn read_lines(rt: &impl Host, input: &mut Input) -> Result<(), Refusal> {
+fn read_lines(rt: &impl CoreHost, input: &mut Input) -> Result<(), Refusal> {
     let left = b"t0 next\n\nlast";
     let mut reader = Counted::new(Slow { left });
     for (line, ending) in [

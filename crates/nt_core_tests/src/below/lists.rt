@@ -1,14 +1,14 @@
 //! Lists of handles and of objects.
 
 use crate::expect::expect;
-use crate::tests::memory::{Host, walk_at_last};
+use crate::tests::memory::{CoreHost, walk_at_last};
 use nt_status::{Handle, Handles, ObjectNumber, ObjectNumbers, Refusal};
 use std::test::Fail;
 
 /// Nine numbers: one more handle than lies in place.
 const NINE: [u32; 9] = [8, 1, 7, 2, 6, 3, 5, 4, 9];
 
-fn list_handles(rt: &impl Host, list: &mut Handles) -> Result<(), Refusal> {
+fn list_handles(rt: &impl CoreHost, list: &mut Handles) -> Result<(), Refusal> {
     let nine = NINE.map(|number| Handle::new(number));
     for handle in &nine {
         list.push(*handle)?;
@@ -29,7 +29,7 @@ fn handles_keep_their_order(rt: HostRuntime) -> Result<(), Fail> {
 
 /// The list takes these objects over, and a copy of it has them too.
 fn list_objects(
-    rt: &impl Host,
+    rt: &impl CoreHost,
     list: &mut ObjectNumbers,
     objects: &[ObjectNumber],
 ) -> Result<(), Refusal> {
@@ -40,7 +40,7 @@ fn list_objects(
 }
 
 /// More objects than lie in place, four that do, four others, one, and four again.
-fn list_in_turn(rt: &impl Host) -> Result<(), Refusal> {
+fn list_in_turn(rt: &impl CoreHost) -> Result<(), Refusal> {
     let nine = NINE.map(|number| ObjectNumber::new(number));
     let mut list = ObjectNumbers::new(rt.alloc());
     for (first, end) in [(0, 9), (0, 4), (5, 9), (0, 1), (0, 4)] {

@@ -1,7 +1,7 @@
 //! Marks and alarms by place.
 
 use crate::expect::{expect, expect_equal};
-use crate::tests::memory::{Host, walk_at_last};
+use crate::tests::memory::{CoreHost, walk_at_last};
 use nt_alarms::Alarms;
 use nt_marks::Marks;
 use nt_status::Refusal;
@@ -20,7 +20,7 @@ fn mark(marks: &mut Marks, others: &mut Marks) -> Result<(), Refusal> {
 }
 
 /// A mark that is taken from a copy stays where it was.
-fn take_from_copy(rt: &impl Host, marks: &Marks) -> Result<(), Refusal> {
+fn take_from_copy(rt: &impl CoreHost, marks: &Marks) -> Result<(), Refusal> {
     let mut copied = marks.copy()?;
     let is_taken = copied.take_first() == Some(99) && copied.is_empty();
     expect(rt, is_taken && marks.first() == Some(99), "a mark");
@@ -48,7 +48,7 @@ fn set_alarm(alarms: &mut Alarms, marks: &mut Marks, more: &mut Marks) -> Result
     Ok(())
 }
 
-fn copy_alarms(rt: &impl Host, alarms: &Alarms, marks: &Marks) -> Result<(), Refusal> {
+fn copy_alarms(rt: &impl CoreHost, alarms: &Alarms, marks: &Marks) -> Result<(), Refusal> {
     let (copied, _, _) = alarms.copy_with(marks, marks)?;
     expect_equal(rt, copied.earliest(), Some(7), "an alarm of a copy");
     expect_equal(rt, alarms.copy()?.earliest(), Some(7), "that of another");

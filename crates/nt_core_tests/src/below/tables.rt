@@ -3,14 +3,14 @@
 ghost use Rattle.std.specs.Prelude.{◌<◌};
 
 use crate::expect::{expect, expect_equal};
-use crate::tests::memory::{Host, walk_at_last};
+use crate::tests::memory::{CoreHost, walk_at_last};
 use nt_objects::Object;
 use nt_status::{Access, Handle, MutexFlags, ObjectNumber, Refusal, ThreadId};
 use nt_tables::{HandleTable, ObjectTable, Opened, Owners};
 use std::test::Fail;
 
 /// One handle more for the second of two objects: in a copy too.
-fn add_handle(rt: &impl Host) -> Result<(), Refusal> {
+fn add_handle(rt: &impl CoreHost) -> Result<(), Refusal> {
     let object = ObjectNumber::new(1);
     let access = Access::MODIFY_STATE;
     let mut table = HandleTable::new(rt.alloc(), 2, access)?;
@@ -28,7 +28,7 @@ fn handles_are_added(rt: HostRuntime) -> Result<(), Fail> {
 }
 
 /// Thread 1 makes a mutex that it owns: in a copy too.
-fn add_mutex(rt: &impl Host, owner: ThreadId) -> Result<(), Refusal>
+fn add_mutex(rt: &impl CoreHost, owner: ThreadId) -> Result<(), Refusal>
     requires { owner < 2 }
 {
     let mut table = ObjectTable::new(rt.alloc(), 2)?;
@@ -38,7 +38,7 @@ fn add_mutex(rt: &impl Host, owner: ThreadId) -> Result<(), Refusal>
     Ok(())
 }
 
-fn expect_owned(rt: &impl Host, table: &ObjectTable, owner: ThreadId) {
+fn expect_owned(rt: &impl CoreHost, table: &ObjectTable, owner: ThreadId) {
     let is_owned = matches!(table.as_slice(), [_, _, mutex] if mutex.is_owned_by(owner));
     expect(rt, is_owned, "a mutex that is owned");
 }
@@ -49,7 +49,7 @@ fn objects_are_added(rt: HostRuntime) -> Result<(), Fail> {
 }
 
 /// Room for eight mutexes: the second of two threads owns none.
-fn make_room(rt: &impl Host) -> Result<(), Refusal> {
+fn make_room(rt: &impl CoreHost) -> Result<(), Refusal> {
     let mut owners = Owners::new(rt.alloc(), 2)?;
     owners.make_room(8)?;
     let copied = owners.copy()?;

@@ -1,13 +1,13 @@
 //! The table of waits: room, waits, and copies.
 
 use crate::expect::{expect, expect_equal};
-use crate::tests::memory::{Host, walk_at_last};
+use crate::tests::memory::{CoreHost, walk_at_last};
 use nt_status::{ObjectNumber, Refusal, ThreadId};
 use nt_waits::{About, Room, WaitTable};
 use std::test::Fail;
 
 /// The thread, which has no wait, waits for any of objects 3, 5 and 300, up to the moment 7.
-fn begin(rt: &impl Host, table: &mut WaitTable, t: ThreadId) -> Result<(), Refusal> {
+fn begin(rt: &impl CoreHost, table: &mut WaitTable, t: ThreadId) -> Result<(), Refusal> {
     let objects = [
         ObjectNumber::new(3),
         ObjectNumber::new(5),
@@ -22,7 +22,7 @@ fn begin(rt: &impl Host, table: &mut WaitTable, t: ThreadId) -> Result<(), Refus
 }
 
 /// Two threads, one of them far from the other, wait: in a copy too.
-fn begin_two(rt: &impl Host, table: &mut WaitTable) -> Result<(), Refusal> {
+fn begin_two(rt: &impl CoreHost, table: &mut WaitTable) -> Result<(), Refusal> {
     begin(rt, table, ThreadId::new(300))?;
     begin(rt, table, ThreadId::new(0))?;
     let copied = table.copy()?;
@@ -32,7 +32,7 @@ fn begin_two(rt: &impl Host, table: &mut WaitTable) -> Result<(), Refusal> {
 }
 
 /// The same in a table with room for two threads and two objects.
-fn begin_with_room(rt: &impl Host) -> Result<(), Refusal> {
+fn begin_with_room(rt: &impl CoreHost) -> Result<(), Refusal> {
     let room = Room {
         threads: 2,
         objects: 1,

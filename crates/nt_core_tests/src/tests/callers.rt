@@ -1,10 +1,10 @@
 //! Calls that no script can say: flags that no creation has, callers of ten digits, handles as a slice, and the end of all handle numbers.
 use crate::tests::play::play_all;
 use crate::tests::script::Answer::{Done, Handle, Pended, Status};
-use crate::tests::script::Ask::{
+use crate::tests::script::Request::{
     AlertableAny, All, Any, Apc, Close, Duplicate, Event, Mutex, Set, Sleep, Timer,
 };
-use crate::tests::script::Step::{Call, CreateEvents, Living, Slice, Waiting};
+use crate::tests::script::ScenarioStep::{Call, CreateEvents, Living, Slice, Waiting};
 use crate::tests::script::{
     ACCESS_DENIED, HANDLE_LIMIT, INFINITE, INVALID_HANDLE, INVALID_PARAMETER, IO_COMPLETION,
     Scenario, THREAD_WAITING, TIMEOUT, UNKNOWN_THREAD,

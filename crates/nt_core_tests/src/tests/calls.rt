@@ -1,5 +1,5 @@
 //! Calls as the dispatcher takes them, from what a scenario asks, and answers as a scenario tells them.
-use crate::tests::script::{Answer, Ask, Ended};
+use crate::tests::script::{Answer, EndedWait, Request};
 use nt_apc::Apc;
 use nt_core::{Act, Call, Grant, Reply, WaitCall, WaitMode};
 use nt_status::{Handle, Handles, Refusal};
@@ -45,53 +45,53 @@ fn swap_for(objects: &[u32], ms: u32, alertable: bool) -> Call {
 }
 
 /// The call that asks for this of these objects.
-pub fn call_of(alloc: Global, ask: Ask, objects: &[u32]) -> Result<Call, AllocError> {
+pub fn call_of(alloc: Global, ask: Request, objects: &[u32]) -> Result<Call, AllocError> {
     let act = match ask {
-        Ask::Any(ms) => return wait_for(alloc, objects, false, ms, false),
-        Ask::All(ms) => return wait_for(alloc, objects, true, ms, false),
-        Ask::Sleep(ms) => return Ok(sleep_for(ms, false)),
-        Ask::AlertableAny(ms) => return wait_for(alloc, objects, false, ms, true),
-        Ask::AlertableAll(ms) => return wait_for(alloc, objects, true, ms, true),
-        Ask::AlertableSleep(ms) => return Ok(sleep_for(ms, true)),
-        Ask::Swap(ms) => return Ok(swap_for(objects, ms, false)),
-        Ask::AlertableSwap(ms) => return Ok(swap_for(objects, ms, true)),
-        Ask::Exit => return Ok(Call::Exit),
-        Ask::Event(flags) => Act::CreateEvent(flags),
-        Ask::Semaphore(initial, maximum) => Act::CreateSemaphore { initial, maximum },
-        Ask::Mutex(flags) => Act::CreateMutex(flags),
-        Ask::Set => Act::SetEvent(first(objects)),
-        Ask::Reset => Act::ResetEvent(first(objects)),
-        Ask::Pulse => Act::PulseEvent(first(objects)),
-        Ask::Release(count) => Act::ReleaseSemaphore {
+        Request::Any(ms) => return wait_for(alloc, objects, false, ms, false),
+        Request::All(ms) => return wait_for(alloc, objects, true, ms, false),
+        Request::Sleep(ms) => return Ok(sleep_for(ms, false)),
+        Request::AlertableAny(ms) => return wait_for(alloc, objects, false, ms, true),
+        Request::AlertableAll(ms) => return wait_for(alloc, objects, true, ms, true),
+        Request::AlertableSleep(ms) => return Ok(sleep_for(ms, true)),
+        Request::Swap(ms) => return Ok(swap_for(objects, ms, false)),
+        Request::AlertableSwap(ms) => return Ok(swap_for(objects, ms, true)),
+        Request::Exit => return Ok(Call::Exit),
+        Request::Event(flags) => Act::CreateEvent(flags),
+        Request::Semaphore(initial, maximum) => Act::CreateSemaphore { initial, maximum },
+        Request::Mutex(flags) => Act::CreateMutex(flags),
+        Request::Set => Act::SetEvent(first(objects)),
+        Request::Reset => Act::ResetEvent(first(objects)),
+        Request::Pulse => Act::PulseEvent(first(objects)),
+        Request::Release(count) => Act::ReleaseSemaphore {
             semaphore: first(objects),
             count,
         },
-        Ask::Unlock => Act::ReleaseMutex(first(objects)),
-        Ask::Apc(routine, arg) => Act::QueueApc {
+        Request::Unlock => Act::ReleaseMutex(first(objects)),
+        Request::Apc(routine, arg) => Act::QueueApc {
             thread: first(objects),
             routine,
             arg,
         },
-        Ask::Timer(flags) => Act::CreateTimer(flags),
-        Ask::Arm(due, period) => Act::SetTimer {
+        Request::Timer(flags) => Act::CreateTimer(flags),
+        Request::Arm(due, period) => Act::SetTimer {
             timer: first(objects),
             due,
             period,
             routine: None,
         },
-        Ask::ArmRoutine(due, period, routine, arg) => Act::SetTimer {
+        Request::ArmRoutine(due, period, routine, arg) => Act::SetTimer {
             timer: first(objects),
             due,
             period,
             routine: Some((routine, arg)),
         },
-        Ask::Cancel => Act::CancelTimer(first(objects)),
-        Ask::Duplicate(access) => Act::Duplicate {
+        Request::Cancel => Act::CancelTimer(first(objects)),
+        Request::Duplicate(access) => Act::Duplicate {
             handle: first(objects),
             access,
         },
-        Ask::Close => Act::Close(first(objects)),
-        Ask::Next => Act::NextApc,
+        Request::Close => Act::Close(first(objects)),
+        Request::Next => Act::NextApc,
     };
     Ok(Call::Act(act))
 }
@@ -124,12 +124,12 @@ pub fn answer_of(replied: Result<Reply, Refusal>) -> Answer {
 }
 
 /// The thread whose wait ended, and the status.
-pub fn ended_of(grant: &Grant) -> Ended {
+pub fn ended_of(grant: &Grant) -> EndedWait {
     (grant.thread.get(), grant.status.code())
 }
 
 /// Whether these waits ended, in this order.
-pub fn are_ended(grants: &[Grant], expected: &[Ended]) -> bool {
+pub fn are_ended(grants: &[Grant], expected: &[EndedWait]) -> bool {
     grants.len() == expected.len()
         && grants
             .iter()

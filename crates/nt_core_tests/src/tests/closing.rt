@@ -1,11 +1,11 @@
 //! Close, and the end of objects that no handle, no pending wait and no running thread keeps.
 use crate::tests::play::{play_all, play_all_in_both};
 use crate::tests::script::Answer::{Done, Handle, NoApc, Pended, Status};
-use crate::tests::script::Ask::{
+use crate::tests::script::Request::{
     AlertableAny, AlertableSleep, All, Any, Apc, Arm, ArmRoutine, Cancel, Close, Duplicate, Event,
     Exit, Mutex, Next, Pulse, Release, Reset, Set, Swap, Timer, Unlock,
 };
-use crate::tests::script::Step::{Call, Living, NoGrowth, Tested, Tick, Waiting};
+use crate::tests::script::ScenarioStep::{Call, Living, NoGrowth, Tested, Tick, Waiting};
 use crate::tests::script::{
     ABANDONED, ACCESS_DENIED, INFINITE, INVALID_HANDLE, IO_COMPLETION, Scenario, THREAD_ENDED,
     TIMEOUT,

@@ -1,11 +1,13 @@
 //! Copies of a dispatcher: a call on a copy changes nothing in what it was made of.
 use crate::expect::expect;
-use crate::tests::memory::{Host, copy_at_last, let_go, open};
+use crate::tests::memory::{CoreHost, copy_at_last, let_go, open};
 use crate::tests::play::take_steps;
 use crate::tests::script::Answer::{Done, Handle, NoApc, Pended};
-use crate::tests::script::Ask::{AlertableSleep, Any, ArmRoutine, Close, Event, Next, Set, Timer};
-use crate::tests::script::Step::{Call, Living, Tick, Waiting};
-use crate::tests::script::{INFINITE, IO_COMPLETION, Step};
+use crate::tests::script::Request::{
+    AlertableSleep, Any, ArmRoutine, Close, Event, Next, Set, Timer,
+};
+use crate::tests::script::ScenarioStep::{Call, Living, Tick, Waiting};
+use crate::tests::script::{INFINITE, IO_COMPLETION, ScenarioStep};
 use nt_core::Core;
 use nt_status::Refusal;
 use std::test::Fail;
@@ -14,9 +16,9 @@ use std::test::Fail;
 struct Copied {
     shows: &'static str,
     threads: u32,
-    before: &'static [Step],
-    in_the_copy: &'static [Step],
-    after: &'static [Step],
+    before: &'static [ScenarioStep],
+    in_the_copy: &'static [ScenarioStep],
+    after: &'static [ScenarioStep],
 }
 
 const COPIES: &[Copied] = &[
@@ -47,7 +49,7 @@ const COPIES: &[Copied] = &[
 ];
 
 /// The timer that thread 1 alone keeps expires, and is gone with its APC.
-const LAST_OF_A_TIMER: &[Step] = &[
+const LAST_OF_A_TIMER: &[ScenarioStep] = &[
     Living(3),
     Tick(10000, Done, &[(1, 0), (0, IO_COMPLETION)]),
     Living(2),
@@ -56,21 +58,21 @@ const LAST_OF_A_TIMER: &[Step] = &[
     Living(3),
 ];
 
-fn play_in_a_copy(rt: &impl Host, core: &Core, copied: &Copied) -> Result<(), Refusal> {
+fn play_in_a_copy(rt: &impl CoreHost, core: &Core, copied: &Copied) -> Result<(), Refusal> {
     let mut copy = copy_at_last(rt, core)?;
     take_steps(rt, &mut copy, copied.shows, copied.in_the_copy);
     let_go(copy);
     Ok(())
 }
 
-fn play_in_both(rt: &impl Host, core: &mut Core, copied: &Copied) {
+fn play_in_both(rt: &impl CoreHost, core: &mut Core, copied: &Copied) {
     take_steps(rt, core, copied.shows, copied.before);
     let played = play_in_a_copy(rt, core, copied);
     expect(rt, played.is_ok(), "a copy that is refused once at most");
     take_steps(rt, core, copied.shows, copied.after);
 }
 
-fn play_copied(rt: &impl Host, copied: &Copied) -> Result<(), Refusal> {
+fn play_copied(rt: &impl CoreHost, copied: &Copied) -> Result<(), Refusal> {
     let mut core = open(rt, copied.threads)?;
     play_in_both(rt, &mut core, copied);
     let_go(core);

@@ -1,11 +1,11 @@
 //! Calls that take no memory: whichever growth is refused, none of them answers 8. Two waits or more pend before each.
 use crate::tests::play::play_all;
 use crate::tests::script::Answer::{Done, Handle, NoApc, Pended, Previous, Status, ThreadApc};
-use crate::tests::script::Ask::{
+use crate::tests::script::Request::{
     AlertableSleep, All, Any, Apc, Arm, ArmRoutine, Cancel, Close, Event, Exit, Mutex, Next, Pulse,
     Release, Reset, Semaphore, Set, Sleep, Timer, Unlock,
 };
-use crate::tests::script::Step::{Call, Living, NoGrowth, Tick, Waiting};
+use crate::tests::script::ScenarioStep::{Call, Living, NoGrowth, Tick, Waiting};
 use crate::tests::script::{
     ABANDONED, INFINITE, INVALID_HANDLE, IO_COMPLETION, NOT_OWNER, Scenario, TOO_MANY_POSTS,
 };

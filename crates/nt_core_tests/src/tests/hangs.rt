@@ -1,6 +1,6 @@
 //! Why threads wait: scenarios of three threads, with what a reader of the definitions would say of each.
 use crate::expect::expect;
-use crate::tests::memory::{Host, tell_refusal};
+use crate::tests::memory::{CoreHost, tell_refusal};
 use nt_apc::Apc;
 use nt_core::{Act, Call, Core, WaitCall, WaitMode};
 use nt_look::why;
@@ -251,7 +251,7 @@ fn is_told(
 
 /// `is_told`, with a second try where memory is refused.
 fn is_told_at_last(
-    rt: &impl Host,
+    rt: &impl CoreHost,
     steps: &[(u32, Does)],
     stuck: bool,
     knot: &[bool],

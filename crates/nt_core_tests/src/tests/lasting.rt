@@ -1,10 +1,10 @@
 //! A dispatcher that gives numbers again by itself: calls, each with the number that it is answered.
 use crate::expect::{expect, expect_equal};
 use crate::tests::calls::{answer_of, call_of};
-use crate::tests::memory::{Host, NOT_ENOUGH_MEMORY, tell_refusal};
+use crate::tests::memory::{CoreHost, NOT_ENOUGH_MEMORY, tell_refusal};
 use crate::tests::script::Answer::{Done, Handle, Pended, Status};
-use crate::tests::script::Ask::{Any, Close, Duplicate, Event, Exit, Mutex, Set};
-use crate::tests::script::{ACCESS_DENIED, Answer, Ask, HANDLE_LIMIT, INFINITE, TIMEOUT};
+use crate::tests::script::Request::{Any, Close, Duplicate, Event, Exit, Mutex, Set};
+use crate::tests::script::{ACCESS_DENIED, Answer, HANDLE_LIMIT, INFINITE, Request, TIMEOUT};
 use nt_apc::Apc;
 use nt_core::{Call, Reply, WaitCall};
 use nt_life::Lasting;
@@ -17,9 +17,9 @@ const MAY_WAIT: u32 = 0x0010_0000;
 #[derive(Clone, Copy)]
 enum Does {
     /// The thread asks for this of these handles, and is answered so.
-    Asks(u32, Ask, &'static [u32], Answer),
+    Asks(u32, Request, &'static [u32], Answer),
     /// It asks for this of these handles, and is answered each handle from the first number to the last.
-    Fills(u32, Ask, &'static [u32], u32, u32),
+    Fills(u32, Request, &'static [u32], u32, u32),
     /// It creates and closes this number of events, each with the handle of the last number.
     Rounds(u32, u32, u32),
     /// A thread begins in this place with this handle, or none does.
@@ -131,7 +131,7 @@ fn answered(
     alloc: Global,
     life: &mut Lasting,
     who: u32,
-    ask: Ask,
+    ask: Request,
     handles: &[u32],
 ) -> Result<Answer, Refusal> {
     let _inside: Option<Apc> = None;
@@ -148,7 +148,7 @@ fn is_filled(
     alloc: Global,
     life: &mut Lasting,
     who: u32,
-    ask: Ask,
+    ask: Request,
     handles: &[u32],
     first: u32,
     last: u32,
@@ -244,7 +244,11 @@ fn play(alloc: Global, threads: u32, steps: &[Does]) -> Result<Option<usize>, Re
 }
 
 /// `play`, with a second try where memory is refused.
-fn play_at_last(rt: &impl Host, threads: u32, steps: &[Does]) -> Result<Option<usize>, Refusal> {
+fn play_at_last(
+    rt: &impl CoreHost,
+    threads: u32,
+    steps: &[Does],
+) -> Result<Option<usize>, Refusal> {
     play(rt.alloc(), threads, steps).or_else(|refusal| {
         tell_refusal(rt, refusal, "a dispatcher that lasts");
         play(rt.alloc(), threads, steps)

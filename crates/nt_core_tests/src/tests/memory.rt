@@ -1,7 +1,7 @@
 //! Second tries where a growth is refused. Each is reported.
 use crate::expect::{expect, expect_equal};
 use crate::tests::calls::{answer_of, call_of};
-use crate::tests::script::{Answer, Ask};
+use crate::tests::script::{Answer, Request};
 use nt_core::{Call, Core, Reply, WaitCall};
 use nt_status::Refusal;
 use std::alloc::{AllocError, Global};
@@ -11,35 +11,35 @@ use std::process::Abort;
 use std::test::Fail;
 
 /// What the tests want of the system.
-pub trait Host: Abort + AllocGlobal + Env + Print {}
+pub trait CoreHost: Abort + AllocGlobal + Env + Print {}
 
-impl<R: Abort + AllocGlobal + Env + Print> Host for R {}
+impl<R: Abort + AllocGlobal + Env + Print> CoreHost for R {}
 
 /// Where memory was refused, as the dispatcher answers it: ERROR_NOT_ENOUGH_MEMORY.
 pub const NOT_ENOUGH_MEMORY: u32 = 8;
 
 /// Whether growths are refused on purpose, as `tests/growths/tests` does: it sets REFUSE.
-pub fn is_refusing(rt: &impl Host) -> bool {
+pub fn is_refusing(rt: &impl CoreHost) -> bool {
     let mut number = [0; 20];
     rt.var("REFUSE", &mut number).is_ok()
 }
 
 /// Tells that a growth was refused, and whose it was. That is right only in a run that refuses one on purpose:
 /// `tests/growths/tests` wants exactly one such line of it.
-pub fn tell_refused(rt: &impl Host, whose: &str) {
+pub fn tell_refused(rt: &impl CoreHost, whose: &str) {
     assert!(rt; is_refusing(rt), "out of memory with ample memory: {whose}");
     assert!(rt; println!(rt; "refused: {whose}").is_ok());
 }
 
 /// The same of a call that was refused: for memory alone.
-pub fn tell_refusal(rt: &impl Host, refusal: Refusal, whose: &str) {
+pub fn tell_refusal(rt: &impl CoreHost, refusal: Refusal, whose: &str) {
     expect_equal(rt, refusal.number(), NOT_ENOUGH_MEMORY, whose);
     tell_refused(rt, whose);
 }
 
 /// Takes the walk, from its beginning once more where memory is refused.
 pub fn walk_at_last<F: Fn() -> Result<(), Refusal>>(
-    rt: &impl Host,
+    rt: &impl CoreHost,
     whose: &str,
     walk: F,
 ) -> Result<(), Fail>
@@ -62,7 +62,7 @@ fn opened(alloc: Global, threads: u32) -> Result<Core, Refusal> {
 }
 
 /// A dispatcher, with a second try where memory is refused.
-pub fn open(rt: &impl Host, threads: u32) -> Result<Core, Refusal> {
+pub fn open(rt: &impl CoreHost, threads: u32) -> Result<Core, Refusal> {
     match opened(rt.alloc(), threads) {
         Ok(core) => Ok(core),
         Err(refusal) => {
@@ -76,7 +76,7 @@ pub fn open(rt: &impl Host, threads: u32) -> Result<Core, Refusal> {
 pub fn let_go(_core: Core) {}
 
 /// An equal dispatcher, with a second try where memory is refused.
-pub fn copy_at_last(rt: &impl Host, core: &Core) -> Result<Core, Refusal> {
+pub fn copy_at_last(rt: &impl CoreHost, core: &Core) -> Result<Core, Refusal> {
     core.copy().or_else(|refusal| {
         tell_refusal(rt, refusal, "a copy");
         core.copy()
@@ -89,7 +89,7 @@ fn is_unmoved(core: &Core, pending: usize) -> bool {
 }
 
 /// Makes the call, a second time where memory is refused, which must have changed nothing.
-fn call_at_last(rt: &impl Host, core: &mut Core, who: u32, call: &Call) -> Answer {
+fn call_at_last(rt: &impl CoreHost, core: &mut Core, who: u32, call: &Call) -> Answer {
     let pending = core.pending();
     let answer = answer_of(core.call(who, call));
     if answer != Answer::Error(NOT_ENOUGH_MEMORY) {
@@ -111,7 +111,11 @@ fn call_by_slice(core: &mut Core, who: u32, call: &Call) -> Result<Reply, Refusa
 }
 
 /// The call that asks for this of these objects, with a second try where memory is refused.
-pub fn call_of_at_last(rt: &impl Host, ask: Ask, objects: &[u32]) -> Result<Call, AllocError> {
+pub fn call_of_at_last(
+    rt: &impl CoreHost,
+    ask: Request,
+    objects: &[u32],
+) -> Result<Call, AllocError> {
     match call_of(rt.alloc(), ask, objects) {
         Ok(call) => Ok(call),
         Err(_) => {
@@ -122,7 +126,13 @@ pub fn call_of_at_last(rt: &impl Host, ask: Ask, objects: &[u32]) -> Result<Call
 }
 
 /// Asks for this of these objects.
-pub fn answer_to(rt: &impl Host, core: &mut Core, who: u32, ask: Ask, objects: &[u32]) -> Answer {
+pub fn answer_to(
+    rt: &impl CoreHost,
+    core: &mut Core,
+    who: u32,
+    ask: Request,
+    objects: &[u32],
+) -> Answer {
     match call_of_at_last(rt, ask, objects) {
         Ok(call) => call_at_last(rt, core, who, &call),
         Err(_) => Answer::NotAsked,
@@ -131,10 +141,10 @@ pub fn answer_to(rt: &impl Host, core: &mut Core, who: u32, ask: Ask, objects: &
 
 /// Asks for this of these objects, with the handles of a wait for objects as a slice.
 pub fn answer_by_slice(
-    rt: &impl Host,
+    rt: &impl CoreHost,
     core: &mut Core,
     who: u32,
-    ask: Ask,
+    ask: Request,
     objects: &[u32],
 ) -> Answer {
     let Ok(call) = call_of_at_last(rt, ask, objects) else {
@@ -150,10 +160,10 @@ pub fn answer_by_slice(
 
 /// Asks for this of these objects once: whichever growth is refused, the call is answered, since it takes no memory.
 pub fn answer_at_once(
-    rt: &impl Host,
+    rt: &impl CoreHost,
     core: &mut Core,
     who: u32,
-    ask: Ask,
+    ask: Request,
     objects: &[u32],
 ) -> Answer {
     match call_of(rt.alloc(), ask, objects) {

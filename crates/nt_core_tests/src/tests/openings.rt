@@ -1,10 +1,10 @@
 //! Openings: a dispatcher has 1 to 256 threads, or 4,096 at the most if it is opened for many.
 use crate::expect::expect_equal;
-use crate::tests::memory::{Host, let_go};
+use crate::tests::memory::{CoreHost, let_go};
 use crate::tests::play::play_all;
 use crate::tests::script::Answer::{Done, Handle, Pended};
-use crate::tests::script::Ask::{Any, Event, Pulse};
-use crate::tests::script::Step::{Call, Waiting};
+use crate::tests::script::Request::{Any, Event, Pulse};
+use crate::tests::script::ScenarioStep::{Call, Waiting};
 use crate::tests::script::{Answer, INFINITE, INVALID_PARAMETER, Scenario};
 use nt_core::Core;
 use nt_status::Refusal;
@@ -39,14 +39,14 @@ fn answer(opened: Result<Core, Refusal>) -> Answer {
     }
 }
 
-fn refuse_openings(rt: &impl Host) {
+fn refuse_openings(rt: &impl CoreHost) {
     for threads in TOO_FEW_OR_MANY {
         let found = (*threads, answer(Core::new(rt.alloc(), *threads)));
         expect_equal(rt, found, (*threads, INVALID_PARAMETER), "too few or many");
     }
 }
 
-fn refuse_openings_for_many(rt: &impl Host) {
+fn refuse_openings_for_many(rt: &impl CoreHost) {
     for threads in TOO_FEW_OR_TOO_MANY {
         let found = (
             *threads,

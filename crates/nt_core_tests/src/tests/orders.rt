@@ -1,7 +1,7 @@
 //! Every order of the calls that threads make: locks that are crossed, and forks that philosophers take. The counts, orders
 //! and losses are those of a search in Python over a machine of its own.
 use crate::expect::expect;
-use crate::tests::memory::{Host, tell_refusal};
+use crate::tests::memory::{CoreHost, tell_refusal};
 use nt_apc::Apc;
 use nt_core::{Act, Call, Core, WaitCall, WaitMode};
 use nt_explore::{Ask, Explored, Loss, Plan, Verdict, Watcher, explore};
@@ -232,14 +232,14 @@ fn is_row(alloc: Global, row: &Row) -> Result<bool, Refusal> {
 }
 
 /// `is_row`, with a second try where memory is refused.
-fn is_row_at_last(rt: &impl Host, row: &Row) -> Result<bool, Refusal> {
+fn is_row_at_last(rt: &impl CoreHost, row: &Row) -> Result<bool, Refusal> {
     is_row(rt.alloc(), row).or_else(|refusal| {
         tell_refusal(rt, refusal, "every order");
         is_row(rt.alloc(), row)
     })
 }
 
-fn tells_just_this(rt: &impl Host, rows: &[Row]) {
+fn tells_just_this(rt: &impl CoreHost, rows: &[Row]) {
     for row in rows {
         let told = is_row_at_last(rt, row);
         expect(rt, matches!(told, Ok(true)), row.name);
@@ -273,7 +273,11 @@ fn is_learned(alloc: Global, most: usize, met: &'static [usize]) -> Result<bool,
 }
 
 /// `is_learned`, with a second try where memory is refused.
-fn is_learned_at_last(rt: &impl Host, most: usize, met: &'static [usize]) -> Result<bool, Refusal> {
+fn is_learned_at_last(
+    rt: &impl CoreHost,
+    most: usize,
+    met: &'static [usize],
+) -> Result<bool, Refusal> {
     is_learned(rt.alloc(), most, met).or_else(|refusal| {
         tell_refusal(rt, refusal, "a watcher");
         is_learned(rt.alloc(), most, met)

@@ -1,11 +1,11 @@
 //! Numbers that are given again: those of objects that are gone, of handles that were closed, and of threads that have ended.
 use crate::tests::play::play_all_in_both;
 use crate::tests::script::Answer::{Done, Handle, NoApc, Object, Pended, Previous, Status};
-use crate::tests::script::Ask::{
+use crate::tests::script::Request::{
     AlertableSleep, All, Any, Apc, ArmRoutine, Close, Duplicate, Event, Exit, Mutex, Next, Release,
     Semaphore, Set, Timer, Unlock,
 };
-use crate::tests::script::Step::{
+use crate::tests::script::ScenarioStep::{
     AddVacant, BeginAgain, Call, Closed, CreateAgain, DuplicateAgain, Living, NoGrowth, SetAside,
     Tested, Tick, Vacant,
 };

@@ -47,7 +47,7 @@ pub const HANDLE_LIMIT: Answer = Answer::Error(0x2000_0007);
 
 /// What a thread asks. Timeouts and periods are in milliseconds, due times in 100 ns.
 #[derive(Clone, Copy)]
-pub enum Ask {
+pub enum Request {
     /// An event, with these flags: 1 manual reset, 2 set at first.
     Event(u32),
     /// A semaphore, with its count at first and its maximum.
@@ -107,25 +107,25 @@ pub enum Answer {
 }
 
 /// A thread, and the status with which its wait ends.
-pub type Ended = (u16, u32);
+pub type EndedWait = (u16, u32);
 
 /// A step of a scenario.
 #[derive(Clone, Copy)]
-pub enum Step {
+pub enum ScenarioStep {
     /// The caller, what it asks, of which objects, what it is answered, and the waits that end, in their order.
-    Call(u32, Ask, &'static [u32], Answer, &'static [Ended]),
+    Call(u32, Request, &'static [u32], Answer, &'static [EndedWait]),
     /// The same as `Call`, and the handles of a wait for objects are handed over as a slice.
-    Slice(u32, Ask, &'static [u32], Answer, &'static [Ended]),
+    Slice(u32, Request, &'static [u32], Answer, &'static [EndedWait]),
     /// The same as `Call` for a call that takes no memory: whichever growth is refused, it is answered at once.
-    NoGrowth(u32, Ask, &'static [u32], Answer, &'static [Ended]),
+    NoGrowth(u32, Request, &'static [u32], Answer, &'static [EndedWait]),
     /// This thread creates events, with the handles from the first of these to the last.
     CreateEvents(u32, u32, u32),
     /// This thread creates an object so, asks this of it, which is done, and closes it: with the handles from the first of these to
     /// the last.
-    CloseEach(u32, Ask, &'static [Ask], u32, u32),
+    CloseEach(u32, Request, &'static [Request], u32, u32),
     /// The caller creates an object so, with the number of one that is gone, and with that of a closed handle for its handle. The
     /// answer. It takes no memory.
-    CreateAgain(u32, Ask, u32, u32, Answer),
+    CreateAgain(u32, Request, u32, u32, Answer),
     /// The caller duplicates this handle, with these rights, and with the number of a closed handle for the new one. The answer. It
     /// takes no memory.
     DuplicateAgain(u32, u32, u32, u32, Answer),
@@ -140,7 +140,7 @@ pub enum Step {
     /// Whether the numbers of these handles may be given again, each of them or none.
     Closed(&'static [u32], bool),
     /// All moments up to this one pass. The answer, and the waits that end, in their order. It takes no memory.
-    Tick(u64, Answer, &'static [Ended]),
+    Tick(u64, Answer, &'static [EndedWait]),
     /// The last call or tick tested this number of pending waits.
     Tested(u64),
     /// This is the present moment.
@@ -159,5 +159,5 @@ pub enum Step {
 pub struct Scenario {
     pub shows: &'static str,
     pub threads: u32,
-    pub steps: &'static [Step],
+    pub steps: &'static [ScenarioStep],
 }

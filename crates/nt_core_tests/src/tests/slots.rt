@@ -2,19 +2,21 @@
 //! difference of two tests that use up more and fewer numbers in the same way.
 use crate::tests::play::play_all;
 use crate::tests::script::Answer::{Done, NoApc, Status};
-use crate::tests::script::Ask::{AlertableSleep, ArmRoutine, Duplicate, Exit, Mutex, Next, Timer};
-use crate::tests::script::Step::{Call, CloseEach, Due, Living, NoGrowth, Tested, Tick};
-use crate::tests::script::{Ask, HANDLE_LIMIT, Scenario};
+use crate::tests::script::Request::{
+    AlertableSleep, ArmRoutine, Duplicate, Exit, Mutex, Next, Timer,
+};
+use crate::tests::script::ScenarioStep::{Call, CloseEach, Due, Living, NoGrowth, Tested, Tick};
+use crate::tests::script::{HANDLE_LIMIT, Request, Scenario};
 use std::test::Fail;
 
 /// The greatest moment that there is: 2^62.
 const LAST_MOMENT: u64 = 0x4000_0000_0000_0000;
 
 /// A due time that lies ahead and comes again, and a routine with its argument.
-const LATER: &[Ask] = &[ArmRoutine(10_000, 1, 7, 9)];
+const LATER: &[Request] = &[ArmRoutine(10_000, 1, 7, 9)];
 
 /// A due time that has come, so that the APC is queued at once.
-const NOW: &[Ask] = &[ArmRoutine(0, 0, 7, 9)];
+const NOW: &[Request] = &[ArmRoutine(0, 0, 7, 9)];
 
 const ALL_ARMED_TIMERS: &[Scenario] = &[Scenario {
     shows: "all numbers are used up by timers that are closed while they are armed",

@@ -1,10 +1,10 @@
 //! How many pending waits a call or tick tests: those on what it changed, as long as they may fit.
 use crate::tests::play::play_all;
 use crate::tests::script::Answer::{Done, Handle, Pended, Status};
-use crate::tests::script::Ask::{
+use crate::tests::script::Request::{
     AlertableAny, All, Any, Apc, Arm, Event, Exit, Mutex, Set, Timer, Unlock,
 };
-use crate::tests::script::Step::{Call, Idle, Tested, Tick, Waiting};
+use crate::tests::script::ScenarioStep::{Call, Idle, Tested, Tick, Waiting};
 use crate::tests::script::{ABANDONED, INFINITE, IO_COMPLETION, Scenario};
 use std::test::Fail;
 
