@@ -11,7 +11,7 @@ ghost use Rattle.nt_mail.specs.Packed.{hands_apc};
 ghost use Rattle.nt_mail.specs.Seats.{seated};
 
 use crate::expect::{expect_at, expect_equal};
-use crate::refused::{Host, tell_refused};
+use crate::refused::{FrontHost, tell_refused};
 use nt_core::{Act, Call, Reply, WaitCall, WaitMode};
 use nt_mail::{
     DispatcherSeat, ENTRY_LIMIT, Mail, Opened, PackedEntry, STATES, ThreadSeat, Word, told_by,
@@ -76,7 +76,7 @@ fn granted_words_alone_tell(rt: HostRuntime) {
 }
 
 /// A mail of two threads, with a second try where memory is refused.
-fn open(rt: &impl Host) -> Result<Opened, AllocError>
+fn open(rt: &impl FrontHost) -> Result<Opened, AllocError>
     ensures words { IfOk result (λ o. o.mail.words ≡ 3) }
     ensures seats { IfOk result (λ o. o.seats
         ≡ record { table = o.mail; written = []; published = []; parts = newcomers 0 2 }) }

@@ -1,11 +1,13 @@
 //! What two threads of a front that lasts ask for, and what stands in its journal then. As in NT, the number that was freed last comes first. A
 //! creation needs two, an object's and a handle's, and gets them again only if both are free.
-use crate::front::asks::Ask::{Begin, BeginAgain, Do, Exit, Make, NextApc, Part, Poll, Wait};
 use crate::front::asks::Does::{Close, Set};
+use crate::front::asks::FrontRequest::{
+    Begin, BeginAgain, Do, Exit, Make, NextApc, Part, Poll, Wait,
+};
 use crate::front::asks::Makes::{Event, OwnedMutex, Semaphore, Timer, ToModify, ToWait};
 use crate::front::asks::Waits::One;
 use crate::front::asks::{Makes, Row};
-use crate::front::says::Answer::{
+use crate::front::says::FrontAnswer::{
     Done, Ended, Entries, Full, Handle, NoApc, Pended, Refused, Taken,
 };
 

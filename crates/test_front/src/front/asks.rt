@@ -1,7 +1,9 @@
 //! What a thread of a front asks for by name, as data, and the call that it is.
 ghost use Rattle.std.specs.Prelude.{◌≤◌};
 
-use crate::front::says::{Answer, Said, said_apc, said_done, said_end, said_handle, said_previous};
+use crate::front::says::{
+    FrontAnswer, Said, said_apc, said_done, said_end, said_handle, said_previous,
+};
 use nt_front::{Held, Named, Pass, Sleeper};
 use nt_front_calls::{Began, Calls, Polled, Refused, Timeout, Told, WaitEnd};
 use nt_status::{Access, EventFlags, Handle, Moment, MutexFlags, TimerFlags};
@@ -50,7 +52,7 @@ pub enum Waits {
 
 /// What a thread asks for: a wait with its milliseconds, and whether it is alertable.
 #[derive(Clone, Copy)]
-pub enum Ask {
+pub enum FrontRequest {
     Make(Makes),
     Do(Does),
     Release(u32, i32),
@@ -70,7 +72,7 @@ pub enum Ask {
 
 /// Which of two threads asks for what, under which number that is written, or 0, and what it is to be answered.
 #[derive(Clone, Copy)]
-pub struct Row(pub u32, pub Ask, pub u64, pub Answer);
+pub struct Row(pub u32, pub FrontRequest, pub u64, pub FrontAnswer);
 
 /// The handles of a list of up to five, and how many they are.
 fn listed(numbers: &[u32]) -> ([Handle; 5], usize)
@@ -175,28 +177,32 @@ fn begin<N: Named, R: Wait + Alloc<A = Global>>(
 fn ask_by_pass<N: Named, R: Wait + Alloc<A = Global>>(
     calls: &Calls<'_, '_, N, R>,
     mut pass: Pass<N>,
-    ask: Ask,
+    ask: FrontRequest,
 ) -> (Held<N>, Said) {
     let said = match ask {
-        Ask::Make(makes) => said_handle(make(calls, &mut pass, makes)),
-        Ask::Do(does) => said_done(carry_out(calls, &mut pass, does)),
-        Ask::Release(semaphore, count) => {
+        FrontRequest::Make(makes) => said_handle(make(calls, &mut pass, makes)),
+        FrontRequest::Do(does) => said_done(carry_out(calls, &mut pass, does)),
+        FrontRequest::Release(semaphore, count) => {
             let semaphore = Handle::new(semaphore);
             said_previous(calls.release_semaphore(&mut pass, semaphore, count))
         }
-        Ask::NextApc => said_apc(calls.next_apc(&mut pass)),
-        Ask::Wait(waits, ms, alertable) => {
+        FrontRequest::NextApc => said_apc(calls.next_apc(&mut pass)),
+        FrontRequest::Wait(waits, ms, alertable) => {
             let (pass, ended) = wait(calls, pass, waits, Timeout::from_ms(ms), alertable);
             return (Held::Pass(pass), said_end(ended));
         }
-        Ask::Begin(waits, ms, alertable) => {
+        FrontRequest::Begin(waits, ms, alertable) => {
             return held_after(begin(calls, pass, waits, Timeout::from_ms(ms), alertable));
         }
-        Ask::Exit => {
+        FrontRequest::Exit => {
             let (held, ended) = calls.exit(pass);
             return (held, said_done(ended));
         }
-        Ask::Poll | Ask::Await | Ask::BeginAgain | Ask::Part | Ask::Now => Said::NOTHING,
+        FrontRequest::Poll
+        | FrontRequest::Await
+        | FrontRequest::BeginAgain
+        | FrontRequest::Part
+        | FrontRequest::Now => Said::NOTHING,
     };
     (Held::Pass(pass), said)
 }
@@ -214,14 +220,14 @@ fn held_after<N: Named>(began: Began<N>) -> (Held<N>, Said) {
 fn ask_asleep<N: Named, R: Wait + Alloc<A = Global>>(
     calls: &Calls<'_, '_, N, R>,
     sleeper: Sleeper<N>,
-    ask: Ask,
+    ask: FrontRequest,
 ) -> (Held<N>, Said) {
     match ask {
-        Ask::Poll => match calls.poll(sleeper) {
+        FrontRequest::Poll => match calls.poll(sleeper) {
             Polled::Ready(pass, told) => (Held::Pass(pass), Said::ended(told)),
             Polled::Still(sleeper) => (Held::Sleeping(sleeper), Said::STILL),
         },
-        Ask::Await => {
+        FrontRequest::Await => {
             let (pass, told) = calls.await_grant(sleeper);
             (Held::Pass(pass), Said::ended(told))
         }
@@ -233,7 +239,7 @@ fn ask_asleep<N: Named, R: Wait + Alloc<A = Global>>(
 pub fn ask_for<N: Named, R: Wait + Alloc<A = Global>>(
     calls: &Calls<'_, '_, N, R>,
     held: Held<N>,
-    ask: Ask,
+    ask: FrontRequest,
 ) -> (Held<N>, Said) {
     match held {
         Held::Pass(pass) => ask_by_pass(calls, pass, ask),

@@ -6,7 +6,7 @@ ghost use Rattle.std.specs.Prelude.{◌≡◌, ◌+◌, ◌≤◌, vec_len, vec_
 
 use crate::expect::{expect, expect_equal};
 use crate::front::told::{Span, let_go};
-use crate::refused::{Host, tell_refused};
+use crate::refused::{FrontHost, tell_refused};
 use nt_core::{Act, Reply};
 use nt_front::{Blank, Front, Held, Named, Pass, Receipt, open, prepare, prepare_lasting};
 use nt_status::{Handle, Refusal};
@@ -30,7 +30,7 @@ fn blank_of(alloc: Global, lasts: bool) -> Result<Blank, Refusal>
 }
 
 /// The same, with a second try where memory is refused.
-fn prepared(rt: &(impl Host + Wait), lasts: bool) -> Result<Blank, Refusal>
+fn prepared(rt: &(impl FrontHost + Wait), lasts: bool) -> Result<Blank, Refusal>
     ensures { IfOk result (λ blank. blank.threads ≡ 2) }
 {
     match blank_of(rt.alloc(), lasts) {
@@ -206,7 +206,7 @@ fn create_in(rt: &impl Wait, alloc: Global, blank: Blank, lasts: bool) -> Result
 }
 
 /// The same, with a second try where the opening finds no memory.
-fn create_at_last(rt: &(impl Host + Wait), lasts: bool) -> Result<Created, Refusal> {
+fn create_at_last(rt: &(impl FrontHost + Wait), lasts: bool) -> Result<Created, Refusal> {
     let blank = prepared(rt, lasts)?;
     match create_in(rt, rt.alloc(), blank, lasts) {
         Err(Refusal::Memory) => {
@@ -219,7 +219,7 @@ fn create_at_last(rt: &(impl Host + Wait), lasts: bool) -> Result<Created, Refus
 }
 
 /// Looks whether the part has all entries, and the history none.
-fn expect_spans(rt: &impl Host, created: &Created, entries: u64) {
+fn expect_spans(rt: &impl FrontHost, created: &Created, entries: u64) {
     expect_equal(rt, created.part, Span { first: 1, entries }, "the part");
     let rest = Span {
         first: entries.saturating_add(1),

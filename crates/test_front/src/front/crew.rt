@@ -5,7 +5,7 @@ use crate::front::jobs::{Job, work};
 use crate::front::parts::Parts;
 use crate::front::seen::{Seen, look_at};
 use crate::front::steps::Creation;
-use crate::front::told::{Told, let_go};
+use crate::front::told::{Learned, let_go};
 use nt_core::Reply;
 use nt_front::{Blank, Carried, Front, Held, History, Named, Pass, open};
 use nt_status::{Handle, Refusal, ThreadId};
@@ -51,17 +51,17 @@ impl Crew {
 
 /// What a thread brings back.
 #[derive(Drop)]
-pub struct Back<N: Named> {
+pub struct MemberResult<N: Named> {
     held: Carried<Held<N>>,
     thread: ThreadId,
-    told: Told,
+    told: Learned,
 }
 
 /// Of what comes back nothing is promised.
 #[derive(Clone, Copy)]
 pub struct Nothing;
 
-impl<N: Named> Promise<Back<N>> for Nothing {
+impl<N: Named> Promise<MemberResult<N>> for Nothing {
     ghost use Rattle.std.specs.Prelude.{◌≡◌};
 
     ghost kept_by = { λ p r. p ≡ p };
@@ -73,12 +73,12 @@ fn serve_in<N: Named, R: Wait + Clock>(
     front: &Front<N>,
     crew: &Crew,
     carried: Carried<Pass<N>>,
-    mut told: Told,
-) -> Back<N> {
+    mut told: Learned,
+) -> MemberResult<N> {
     let pass = carried.into_hold();
     let thread = pass.thread();
     let held = work(rt, front, crew, pass, crew.job_of(thread), &mut told);
-    Back {
+    MemberResult {
         held: Carried { hold: held },
         thread,
         told,
@@ -92,10 +92,10 @@ fn start_each<'s, 'e: 's, N: Named + Send + Sync + 'e, R: Threads + Wait + Clock
     front: &'e Front<N>,
     crew: &'e Crew,
     first: Carried<Pass<N>>,
-    told: Told,
+    told: Learned,
     mut carriers: Vec<Carried<Pass<N>>>,
-    back: Vec<Back<N>>,
-) -> Vec<Back<N>>
+    back: Vec<MemberResult<N>>,
+) -> Vec<MemberResult<N>>
     requires { vec_len back + vec_len carriers < vec_capacity back }
     ensures count { vec_len result ≤ vec_len back + vec_len carriers + 1 }
     ensures capacity { vec_capacity result ≡ vec_capacity back }
@@ -107,7 +107,7 @@ fn start_each<'s, 'e: 's, N: Named + Send + Sync + 'e, R: Threads + Wait + Clock
     };
     match scope.spawn_with(
         Nothing,
-        move || serve_in(rt, front, crew, carried, Told::default()),
+        move || serve_in(rt, front, crew, carried, Learned::default()),
     ) {
         Ok(child) => {
             let mut back = start_each(scope, rt, front, crew, first, told, carriers, back);
@@ -123,17 +123,17 @@ fn start_all<N: Named + Send + Sync, R: Threads + Wait + Clock + Sync>(
     front: &Front<N>,
     crew: &Crew,
     first: Carried<Pass<N>>,
-    told: Told,
+    told: Learned,
     carriers: Vec<Carried<Pass<N>>>,
-    back: Vec<Back<N>>,
-) -> Vec<Back<N>>
+    back: Vec<MemberResult<N>>,
+) -> Vec<MemberResult<N>>
     requires { vec_len back + vec_len carriers < vec_capacity back }
     ensures { vec_len result ≤ vec_len back + vec_len carriers + 1 }
 {
     thread::scope(
         thread::scope_env(),
         rt,
-        move |scope| -> Vec<Back<N>>
+        move |scope| -> Vec<MemberResult<N>>
             requires { vec_len back + vec_len carriers < vec_capacity back }
             ensures { vec_len result ≤ vec_len back + vec_len carriers + 1 }
         { start_each(scope, rt, front, crew, first, told, carriers, back) },
@@ -147,7 +147,7 @@ fn create_all<N: Named>(
     pass: &mut Pass<N>,
     threads: u32,
     creations: &[Creation],
-    told: &mut Told,
+    told: &mut Learned,
 ) {
     let mut next = threads;
     for creation in creations {
@@ -180,16 +180,16 @@ fn carry<N: Named>(
 /// Puts the holds of all threads together, and ends the front.
 fn finish<N: Named>(
     front: Front<N>,
-    mut back: Vec<Back<N>>,
+    mut back: Vec<MemberResult<N>>,
     mut holds: Vec<Held<N>>,
-    told: &mut Vec<(ThreadId, Told)>,
+    told: &mut Vec<(ThreadId, Learned)>,
     seen: &mut Seen,
 ) -> History
     requires holds { (holds.items ≡ []) × (vec_len back ≤ vec_capacity holds) }
     requires told { vec_len told.old + vec_len back ≤ vec_capacity told.old }
 {
     while let Some(one) = back.pop() {
-        let Back {
+        let MemberResult {
             held,
             thread,
             told: known,
@@ -209,10 +209,10 @@ fn run<N: Named + Send + Sync, R: Threads + Wait + Clock + Sync>(
     rt: &R,
     front: Front<N>,
     mut carriers: Vec<Carried<Pass<N>>>,
-    back: Vec<Back<N>>,
+    back: Vec<MemberResult<N>>,
     holds: Vec<Held<N>>,
     crew: &Crew,
-    told: &mut Vec<(ThreadId, Told)>,
+    told: &mut Vec<(ThreadId, Learned)>,
     seen: &mut Seen,
 ) -> History
     requires back { (vec_len back ≡ 0) × (vec_len carriers ≤ vec_capacity back) }
@@ -223,7 +223,7 @@ fn run<N: Named + Send + Sync, R: Threads + Wait + Clock + Sync>(
         return front.finish(holds);
     };
     let mut pass = first.into_hold();
-    let mut created = Told::default();
+    let mut created = Learned::default();
     create_all(
         rt,
         &front,
@@ -240,9 +240,9 @@ fn run<N: Named + Send + Sync, R: Threads + Wait + Clock + Sync>(
 /// Room for what a crew takes along and brings back.
 struct Room<N: Named> {
     carriers: Vec<Carried<Pass<N>>>,
-    back: Vec<Back<N>>,
+    back: Vec<MemberResult<N>>,
     holds: Vec<Held<N>>,
-    told: Vec<(ThreadId, Told)>,
+    told: Vec<(ThreadId, Learned)>,
 }
 
 impl<N: Named> Room<N> {

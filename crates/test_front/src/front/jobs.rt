@@ -3,7 +3,7 @@ use crate::front::crew::Crew;
 use crate::front::plan::{lead, toil};
 use crate::front::roams::roam;
 use crate::front::steps::{ENDLESS, objects};
-use crate::front::told::Told;
+use crate::front::told::Learned;
 use crate::front::wakes::{self, Way, wake};
 use nt_core::{Act, WaitCall};
 use nt_front::{Begun, Front, Held, Named, Pass, Polled, Sleeper};
@@ -80,7 +80,7 @@ pub fn work<N: Named, R: Wait + Clock>(
     crew: &Crew,
     mut pass: Pass<N>,
     job: Job,
-    told: &mut Told,
+    told: &mut Learned,
 ) -> Held<N> {
     match job {
         Job::Roam { calls, manner } => roam(rt, front, crew, pass, calls, manner, told),
@@ -141,7 +141,7 @@ pub fn call<N: Named>(
     front: &Front<N>,
     pass: &mut Pass<N>,
     act: Act,
-    told: &mut Told,
+    told: &mut Learned,
 ) {
     match front.call(rt, pass, act) {
         Ok(receipt) => told.called(&receipt),
@@ -157,7 +157,7 @@ pub fn wait<N: Named>(
     pass: Pass<N>,
     asked: WaitCall,
     manner: Manner,
-    told: &mut Told,
+    told: &mut Learned,
 ) -> Held<N> {
     match front.begin(rt, pass, asked) {
         Begun::Done(pass, receipt) => {
@@ -188,7 +188,7 @@ fn poll_for<N: Named>(
     front: &Front<N>,
     sleeper: Sleeper<N>,
     polls: u32,
-    told: &mut Told,
+    told: &mut Learned,
 ) -> Held<N> {
     let mut sleeper = sleeper;
     for _ in 0..polls {
@@ -211,7 +211,7 @@ pub fn wait_for<N: Named>(
     crew: &Crew,
     pass: Pass<N>,
     object: Handle,
-    told: &mut Told,
+    told: &mut Learned,
 ) -> Pass<N> {
     let Ok(asked) = objects(crew.alloc, &[object], false, ENDLESS) else {
         told.lost();
@@ -242,7 +242,7 @@ fn tick<N: Named, R: Wait + Clock>(
     front: &Front<N>,
     crew: &Crew,
     pass: &mut Pass<N>,
-    told: &mut Told,
+    told: &mut Learned,
 ) {
     for number in 1..=crew.ticks {
         if crew.roaming.load(Ordering::SeqCst) == 0 {
@@ -261,7 +261,7 @@ fn tick_to<N: Named>(
     front: &Front<N>,
     pass: &mut Pass<N>,
     moment: u64,
-    told: &mut Told,
+    told: &mut Learned,
 ) {
     let Some(moment) = Moment::new(moment) else {
         told.lost();
@@ -284,7 +284,7 @@ fn serve<N: Named>(
     sets: Handle,
     waits: Handle,
     times: u32,
-    told: &mut Told,
+    told: &mut Learned,
 ) -> Pass<N> {
     for _ in 0..times {
         call(rt, front, &mut pass, Act::SetEvent(sets), told);
@@ -301,7 +301,7 @@ fn answer<N: Named>(
     waits: Handle,
     sets: Handle,
     times: u32,
-    told: &mut Told,
+    told: &mut Learned,
 ) -> Pass<N> {
     for _ in 0..times {
         pass = wait_for(rt, front, crew, pass, waits, told);
@@ -317,7 +317,7 @@ fn lock<N: Named>(
     mut pass: Pass<N>,
     mutex: Handle,
     times: u32,
-    told: &mut Told,
+    told: &mut Learned,
 ) -> Pass<N> {
     for _ in 0..times {
         pass = wait_for(rt, front, crew, pass, mutex, told);
@@ -334,7 +334,7 @@ fn await_event<N: Named>(
     pass: Pass<N>,
     event: Handle,
     manner: Manner,
-    told: &mut Told,
+    told: &mut Learned,
 ) -> Held<N> {
     match objects(crew.alloc, &[event], false, ENDLESS) {
         Ok(asked) => wait(rt, front, crew, pass, asked, manner, told),
@@ -353,7 +353,7 @@ fn set_when_awaited<N: Named>(
     pass: &mut Pass<N>,
     event: Handle,
     turns: u32,
-    told: &mut Told,
+    told: &mut Learned,
 ) {
     for _ in 0..turns {
         if crew.awaited.load(Ordering::SeqCst) > 0 {

@@ -4,12 +4,12 @@ ghost use Rattle.std.specs.Prelude.{◌≡◌, ◌+◌, ◌≤◌, vec_len, vec_
 
 use crate::expect::expect_equal;
 use crate::front::again_rows::{Gives, LIVES, Life, Renewed};
-use crate::front::asks::{Ask, Makes, Row, ask_for};
+use crate::front::asks::{FrontRequest, Makes, Row, ask_for};
 use crate::front::named_rows::SCENARIOS;
 use crate::front::replay::first_difference;
-use crate::front::says::{Answer, Said};
+use crate::front::says::{FrontAnswer, Said};
 use crate::front::told::let_go;
-use crate::refused::{Host, is_refusing};
+use crate::refused::{FrontHost, is_refusing};
 use nt_core::{Act, Reply};
 use nt_front::{
     BegunAgain, Blank, Front, Held, History, Named, PackedEntry, Part, Pass, ReadEntry, Receipt,
@@ -43,7 +43,7 @@ fn said_begun(receipt: &Receipt) -> Said {
     match &receipt.result {
         Ok(Reply::Handle(handle)) => Said {
             entry: receipt.entry,
-            answer: Answer::Handle(handle.get()),
+            answer: FrontAnswer::Handle(handle.get()),
         },
         _ => Said::NOTHING,
     }
@@ -54,8 +54,8 @@ fn begin_again<N: Named>(rt: &impl Wait, front: &Front<N>, held: Held<N>) -> (He
     match held {
         Held::Ended(ended) => match front.begin_again(rt, ended) {
             BegunAgain::Begun(pass, receipt) => (Held::Pass(pass), said_begun(&receipt)),
-            BegunAgain::Taken(ended) => (Held::Ended(ended), Said::unwritten(Answer::Taken)),
-            BegunAgain::NoRoom(ended) => (Held::Ended(ended), Said::unwritten(Answer::Full)),
+            BegunAgain::Taken(ended) => (Held::Ended(ended), Said::unwritten(FrontAnswer::Taken)),
+            BegunAgain::NoRoom(ended) => (Held::Ended(ended), Said::unwritten(FrontAnswer::Full)),
         },
         awake => (awake, Said::NOTHING),
     }
@@ -83,7 +83,7 @@ fn said_part(taken: Result<Part, Refusal>, parts: &mut Vec<Part>) -> Said {
         return Said::NOTHING;
     };
     let entry = part.first;
-    let answer = Answer::Entries(part.entries.len());
+    let answer = FrontAnswer::Entries(part.entries.len());
     drop(parts.push(part));
     Said { entry, answer }
 }
@@ -92,7 +92,7 @@ fn said_part(taken: Result<Part, Refusal>, parts: &mut Vec<Part>) -> Said {
 fn read_moment<N: Named>(front: &Front<N>, held: Held<N>) -> (Held<N>, Said) {
     match held {
         Held::Pass(mut pass) => {
-            let answer = Answer::Moment(front.now(&mut pass).get());
+            let answer = FrontAnswer::Moment(front.now(&mut pass).get());
             (Held::Pass(pass), Said::unwritten(answer))
         }
         other => (other, Said::NOTHING),
@@ -105,13 +105,13 @@ fn step<N: Named, R: Wait + Alloc<A = Global>>(
     rt: &R,
     front: &Front<N>,
     held: Held<N>,
-    ask: Ask,
+    ask: FrontRequest,
     parts: &mut Vec<Part>,
 ) -> (Held<N>, Said) {
     match ask {
-        Ask::BeginAgain => begin_again(rt, front, held),
-        Ask::Part => take_part(rt, front, held, parts),
-        Ask::Now => read_moment(front, held),
+        FrontRequest::BeginAgain => begin_again(rt, front, held),
+        FrontRequest::Part => take_part(rt, front, held, parts),
+        FrontRequest::Now => read_moment(front, held),
         _ => ask_for(calls, held, ask),
     }
 }
@@ -351,7 +351,7 @@ fn seen_of<R: Wait + Alloc<A = Global>>(rt: &R, life: &Life) -> Result<Seen, Ref
 }
 
 /// Each of these lives is answered as its rows say.
-fn check_all<R: Host + Wait + Alloc<A = Global>>(rt: &R, lives: &[Life]) -> Result<(), Fail> {
+fn check_all<R: FrontHost + Wait + Alloc<A = Global>>(rt: &R, lives: &[Life]) -> Result<(), Fail> {
     if is_refusing(rt) {
         return Ok(());
     }

@@ -1,16 +1,16 @@
 //! Each call of a front by its name, on its happy path and refused. What it is to be answered is Win32's reference, as docs/WIN32.md has it;
 //! a call that the reference never refuses is refused here by a full journal.
 use crate::front::again_rows::Life;
-use crate::front::asks::Ask::{
-    Await, Begin, Do, Exit, Make, NextApc, Now, Part, Poll, Release, Wait,
-};
 use crate::front::asks::Does::{
     CancelTimer, Close, Pulse, QueueApc, ReleaseMutex, Reset, Set, SetTimer, TickTo,
+};
+use crate::front::asks::FrontRequest::{
+    Await, Begin, Do, Exit, Make, NextApc, Now, Part, Poll, Release, Wait,
 };
 use crate::front::asks::Makes::{Event, OwnedMutex, Semaphore, Timer, ToModify, ToWait};
 use crate::front::asks::Row;
 use crate::front::asks::Waits::{All, Any, One, Sleep, Swap};
-use crate::front::says::Answer::{
+use crate::front::says::FrontAnswer::{
     Apc, Done, Ended, Entries, Full, Handle, Moment, NoApc, Pended, Previous, Refused, Still,
 };
 

@@ -1,5 +1,5 @@
 //! The parts of a journal that the threads of a crew take.
-use crate::front::told::Told;
+use crate::front::told::Learned;
 use nt_front::{Front, Named, Part, Pass};
 use std::alloc::Global;
 use std::sync::atomic::{AtomicU64, Ordering};
@@ -31,7 +31,7 @@ impl Parts {
         rt: &impl Wait,
         front: &Front<N>,
         pass: &mut Pass<N>,
-        told: &mut Told,
+        told: &mut Learned,
     ) {
         let first = self.first.load(Ordering::SeqCst);
         if told.last.saturating_sub(first) >= self.every {
@@ -45,7 +45,7 @@ impl Parts {
         rt: &impl Wait,
         front: &Front<N>,
         pass: &mut Pass<N>,
-        told: &mut Told,
+        told: &mut Learned,
     ) {
         let mut taken = self.taken.lock(rt);
         match front.rotate(rt, pass) {
@@ -55,7 +55,7 @@ impl Parts {
     }
 
     /// Keeps a part, after those before it.
-    fn keep(&self, taken: &mut Vec<Part>, part: Part, told: &mut Told) {
+    fn keep(&self, taken: &mut Vec<Part>, part: Part, told: &mut Learned) {
         let next = part.first.wrapping_add(part.entries.len() as u64);
         self.first.store(next, Ordering::SeqCst);
         if taken.push(part).is_err() {

@@ -3,7 +3,7 @@ use crate::front::crew::Crew;
 use crate::front::jobs::{Manner, call, wait, wait_for};
 use crate::front::roams::end;
 use crate::front::steps::{Creation, ENDLESS, objects};
-use crate::front::told::Told;
+use crate::front::told::Learned;
 use nt_core::Act;
 use nt_front::{Front, Held, Named, Pass};
 use nt_status::Handle;
@@ -31,7 +31,7 @@ pub fn lead<N: Named>(
     front: &Front<N>,
     crew: &Crew,
     mut pass: Pass<N>,
-    told: &mut Told,
+    told: &mut Learned,
 ) -> Held<N> {
     call(
         rt,
@@ -57,7 +57,7 @@ pub fn toil<N: Named>(
     crew: &Crew,
     pass: Pass<N>,
     rounds: u32,
-    told: &mut Told,
+    told: &mut Learned,
 ) -> Held<N> {
     let (mutex, semaphore) = (Handle::new(MUTEX), Handle::new(SEMAPHORE));
     let mut pass = wait_for(rt, front, crew, pass, Handle::new(START), told);

@@ -2,7 +2,7 @@
 use crate::front::crew::Crew;
 use crate::front::jobs::{Manner, call, wait};
 use crate::front::steps::Draws;
-use crate::front::told::Told;
+use crate::front::told::Learned;
 use nt_front::{Exited, Front, Held, Named, Pass};
 use std::sync::Wait;
 use std::sync::atomic::Ordering;
@@ -15,7 +15,7 @@ pub fn roam<N: Named>(
     pass: Pass<N>,
     calls: u32,
     manner: Manner,
-    told: &mut Told,
+    told: &mut Learned,
 ) -> Held<N> {
     let mut draws = Draws::new(
         crew.seed
@@ -41,7 +41,7 @@ fn step<N: Named>(
     held: Held<N>,
     draws: &mut Draws,
     manner: Manner,
-    told: &mut Told,
+    told: &mut Learned,
 ) -> Held<N> {
     let Held::Pass(mut pass) = held else {
         return held;
@@ -60,7 +60,12 @@ fn step<N: Named>(
 }
 
 /// Ends the thread.
-pub fn end<N: Named>(rt: &impl Wait, front: &Front<N>, held: Held<N>, told: &mut Told) -> Held<N> {
+pub fn end<N: Named>(
+    rt: &impl Wait,
+    front: &Front<N>,
+    held: Held<N>,
+    told: &mut Learned,
+) -> Held<N> {
     let Held::Pass(pass) = held else {
         return held;
     };

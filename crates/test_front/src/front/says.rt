@@ -5,7 +5,7 @@ use nt_status::{Handle, Status};
 
 /// An answer. Refusals and statuses have their numbers.
 #[derive(Clone, Copy, PartialEq, Eq, Debug)]
-pub enum Answer {
+pub enum FrontAnswer {
     Done,
     Handle(u32),
     Previous(i32),
@@ -38,36 +38,36 @@ pub enum Answer {
 #[derive(Clone, Copy, PartialEq, Eq, Debug)]
 pub struct Said {
     pub entry: u64,
-    pub answer: Answer,
+    pub answer: FrontAnswer,
 }
 
 impl Said {
     pub const NOTHING: Said = Said {
         entry: 0,
-        answer: Answer::Nothing,
+        answer: FrontAnswer::Nothing,
     };
 
     pub const STILL: Said = Said {
         entry: 0,
-        answer: Answer::Still,
+        answer: FrontAnswer::Still,
     };
 
     /// What is answered, of which nothing was written.
-    pub fn unwritten(answer: Answer) -> Said {
+    pub fn unwritten(answer: FrontAnswer) -> Said {
         Said { entry: 0, answer }
     }
 
     pub fn pended(entry: u64) -> Said {
         Said {
             entry,
-            answer: Answer::Pended,
+            answer: FrontAnswer::Pended,
         }
     }
 
     pub fn ended(told: Told<Status>) -> Said {
         Said {
             entry: told.entry,
-            answer: Answer::Ended(told.answer.code()),
+            answer: FrontAnswer::Ended(told.answer.code()),
         }
     }
 
@@ -75,15 +75,15 @@ impl Said {
         match refused {
             Refused::Call { entry, refusal } => Said {
                 entry,
-                answer: Answer::Refused(refusal.number()),
+                answer: FrontAnswer::Refused(refusal.number()),
             },
             Refused::JournalFull => Said {
                 entry: 0,
-                answer: Answer::Full,
+                answer: FrontAnswer::Full,
             },
             Refused::NoMemory => Said {
                 entry: 0,
-                answer: Answer::NoMemory,
+                answer: FrontAnswer::NoMemory,
             },
         }
     }
@@ -93,7 +93,7 @@ pub fn said_done(answer: Result<Told<()>, Refused>) -> Said {
     match answer {
         Ok(told) => Said {
             entry: told.entry,
-            answer: Answer::Done,
+            answer: FrontAnswer::Done,
         },
         Err(refused) => Said::refused(refused),
     }
@@ -103,7 +103,7 @@ pub fn said_handle(answer: Result<Told<Handle>, Refused>) -> Said {
     match answer {
         Ok(told) => Said {
             entry: told.entry,
-            answer: Answer::Handle(told.answer.get()),
+            answer: FrontAnswer::Handle(told.answer.get()),
         },
         Err(refused) => Said::refused(refused),
     }
@@ -113,7 +113,7 @@ pub fn said_previous(answer: Result<Told<i32>, Refused>) -> Said {
     match answer {
         Ok(told) => Said {
             entry: told.entry,
-            answer: Answer::Previous(told.answer),
+            answer: FrontAnswer::Previous(told.answer),
         },
         Err(refused) => Said::refused(refused),
     }
@@ -124,8 +124,8 @@ pub fn said_apc(answer: Result<Told<Option<Apc>>, Refused>) -> Said {
         Ok(told) => Said {
             entry: told.entry,
             answer: match told.answer {
-                Some(apc) => Answer::Apc(apc.routine, apc.arg),
-                None => Answer::NoApc,
+                Some(apc) => FrontAnswer::Apc(apc.routine, apc.arg),
+                None => FrontAnswer::NoApc,
             },
         },
         Err(refused) => Said::refused(refused),
@@ -137,8 +137,8 @@ pub fn said_end(answer: Result<WaitEnd, Refused>) -> Said {
         Ok(end) => Said {
             entry: end.entry,
             answer: match end.granted {
-                Some(_) => Answer::Granted(end.status.code()),
-                None => Answer::Ended(end.status.code()),
+                Some(_) => FrontAnswer::Granted(end.status.code()),
+                None => FrontAnswer::Ended(end.status.code()),
             },
         },
         Err(refused) => Said::refused(refused),

@@ -1,7 +1,7 @@
 //! What became of a crew, by what its threads learned and by what the journal has of them.
 use crate::front::crew::Crew;
 use crate::front::replay::first_difference;
-use crate::front::told::{Entries, Told};
+use crate::front::told::{Entries, Learned};
 use nt_front::{History, Part};
 use nt_status::{Refusal, ThreadId};
 
@@ -25,8 +25,8 @@ pub struct Seen {
 }
 
 /// What the parts and the history say of this thread.
-fn written_of(thread: ThreadId, parts: &[Part], history: &History) -> Told {
-    let mut written = Told::default();
+fn written_of(thread: ThreadId, parts: &[Part], history: &History) -> Learned {
+    let mut written = Learned::default();
     for part in parts {
         written.read_all(thread, part.first, part.entries.as_slice());
     }
@@ -48,7 +48,7 @@ pub fn look_at(
     crew: &Crew,
     parts: &[Part],
     history: &History,
-    told: &[(ThreadId, Told)],
+    told: &[(ThreadId, Learned)],
     mut seen: Seen,
 ) -> Result<Seen, Refusal> {
     seen.parts = parts.len();

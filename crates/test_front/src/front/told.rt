@@ -53,7 +53,7 @@ impl Entries {
 
 /// A thread's calls and ticks that were written, and the grants that it was given.
 #[derive(Clone, Copy, Default, PartialEq, Eq, Debug)]
-pub struct Told {
+pub struct Learned {
     pub calls: Entries,
     pub grants: Entries,
     /// The sum of the codes of the statuses that it was granted.
@@ -64,7 +64,7 @@ pub struct Told {
     pub lost: u64,
 }
 
-impl Told {
+impl Learned {
     pub fn called(&mut self, receipt: &Receipt) {
         self.last = receipt.entry;
         self.calls.add(receipt.entry);

@@ -4,7 +4,7 @@ use crate::front::crew::Crew;
 use crate::front::jobs::{Job, Manner, call};
 use crate::front::runs::{NEVER, Roll, man_all};
 use crate::front::steps::{Creation, ENDLESS, INFINITE, objects};
-use crate::front::told::Told;
+use crate::front::told::Learned;
 use crate::refused::is_refusing;
 use nt_core::{Act, WaitCall, WaitMode};
 use nt_front::{Begun, Exited, Front, Held, Named, Pass, Waited};
@@ -49,7 +49,7 @@ pub fn sleep<N: Named>(
     pass: Pass<N>,
     object: Option<u32>,
     sets: Option<u32>,
-    told: &mut Told,
+    told: &mut Learned,
 ) -> Held<N> {
     let asked = match object {
         Some(object) => objects(crew.alloc, &[Handle::new(object)], false, ENDLESS),
@@ -77,7 +77,7 @@ fn wait<N: Named>(
     front: &Front<N>,
     pass: Pass<N>,
     asked: WaitCall,
-    told: &mut Told,
+    told: &mut Learned,
 ) -> Pass<N> {
     match front.wait(rt, pass, asked) {
         Waited::Done(pass, receipt) => {
@@ -102,7 +102,7 @@ fn begin<N: Named>(
     front: &Front<N>,
     pass: Pass<N>,
     asked: WaitCall,
-    told: &mut Told,
+    told: &mut Learned,
 ) -> Pass<N> {
     match front.begin(rt, pass, asked) {
         Begun::Done(pass, receipt) => {
@@ -135,7 +135,7 @@ fn swap(ms: u32) -> WaitCall {
 }
 
 /// Lets 1 ms pass.
-fn tick<N: Named>(rt: &impl Wait, front: &Front<N>, pass: &mut Pass<N>, told: &mut Told) {
+fn tick<N: Named>(rt: &impl Wait, front: &Front<N>, pass: &mut Pass<N>, told: &mut Learned) {
     let Some(moment) = Moment::new(10_000) else {
         told.lost();
         return;
@@ -152,7 +152,7 @@ fn set<N: Named>(
     front: &Front<N>,
     mut pass: Pass<N>,
     event: u32,
-    told: &mut Told,
+    told: &mut Learned,
 ) -> Held<N> {
     let act = Act::SetEvent(Handle::new(event));
     call(rt, front, &mut pass, act, told);
@@ -160,7 +160,7 @@ fn set<N: Named>(
 }
 
 /// Ends the thread.
-fn exit<N: Named>(rt: &impl Wait, front: &Front<N>, pass: Pass<N>, told: &mut Told) -> Held<N> {
+fn exit<N: Named>(rt: &impl Wait, front: &Front<N>, pass: Pass<N>, told: &mut Learned) -> Held<N> {
     match front.exit(rt, pass) {
         Exited::Ended(ended, receipt) => {
             told.called(&receipt);
@@ -180,7 +180,7 @@ pub fn wake<N: Named, R: Wait + Clock>(
     crew: &Crew,
     mut pass: Pass<N>,
     way: Way,
-    told: &mut Told,
+    told: &mut Learned,
 ) -> Held<N> {
     for _ in rt.forever() {
         if crew.awaited.load(Ordering::SeqCst) >= u64::from(crew.threads.saturating_sub(1)) {
