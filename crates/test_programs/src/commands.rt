@@ -2,9 +2,9 @@
 
 mod threads;
 
-use crate::devices::{Given, Room, Taken};
+use crate::devices::{Given, MemoryWriter, WriteLimit};
 use crate::expect::expect;
-use crate::refused::{Host, before_refusal, tell_refused};
+use crate::refused::{ProgramHost, before_refusal, tell_refused};
 use nt_commands::script_over;
 use nt_devices::Counted;
 use std::alloc::Global;
@@ -20,7 +20,7 @@ pub struct Ran {
 }
 
 impl Ran {
-    fn new(taken: Taken, errors: Taken, status: u8) -> Ran {
+    fn new(taken: MemoryWriter, errors: MemoryWriter, status: u8) -> Ran {
         Ran {
             is_lost: taken.is_refused || errors.is_refused,
             written: taken.bytes,
@@ -44,9 +44,9 @@ impl Ran {
     }
 }
 
-fn run_once(alloc: Global, given: Given<'_>, room: Room) -> Ran {
-    let mut taken = Taken::new(alloc, room);
-    let mut errors = Taken::new(alloc, Room::ENDLESS);
+fn run_once(alloc: Global, given: Given<'_>, room: WriteLimit) -> Ran {
+    let mut taken = MemoryWriter::new(alloc, room);
+    let mut errors = MemoryWriter::new(alloc, WriteLimit::ENDLESS);
     let status = script_over(
         alloc,
         &mut Counted::new(given),
@@ -57,7 +57,7 @@ fn run_once(alloc: Global, given: Given<'_>, room: Room) -> Ran {
 }
 
 /// Runs the script, a second time where memory is refused: what stands before the refusal was right.
-pub fn run_over(rt: &impl Host, given: Given<'_>, room: Room) -> Ran {
+pub fn run_over(rt: &impl ProgramHost, given: Given<'_>, room: WriteLimit) -> Ran {
     let ran = run_once(rt.alloc(), given, room);
     if !ran.is_refused() {
         return ran;
@@ -91,7 +91,7 @@ const TRANSCRIPT: &str = "\
 end: pending none
 ";
 
-fn check(rt: &impl Host, given: Given<'_>, room: Room, ending: (&str, &str, u8)) {
+fn check(rt: &impl ProgramHost, given: Given<'_>, room: WriteLimit, ending: (&str, &str, u8)) {
     let (written, said, status) = ending;
     let is_ending = run_over(rt, given, room).is(written, said, status);
     expect(rt, is_ending, said);
@@ -100,29 +100,29 @@ fn check(rt: &impl Host, given: Given<'_>, room: Room, ending: (&str, &str, u8))
 #[test]
 fn a_run_ends_with_its_status_and_message(rt: HostRuntime) {
     let whole = Given::all(HAND_OVER.as_bytes());
-    check(&rt, whole, Room::ENDLESS, (TRANSCRIPT, "", 0));
+    check(&rt, whole, WriteLimit::ENDLESS, (TRANSCRIPT, "", 0));
     let cut = Given::failing_after(HAND_OVER.as_bytes(), 10);
     let ending = ("", "ntrun: line 2: read failed\n", 1);
-    check(&rt, cut, Room::ENDLESS, ending);
+    check(&rt, cut, WriteLimit::ENDLESS, ending);
     let all_but_one = TRANSCRIPT.len() - 1;
     let written = TRANSCRIPT.get(..all_but_one).unwrap_or("");
     let ending = (written, "ntrun: line 7: write failed\n", 1);
-    check(&rt, whole, Room::of(all_but_one), ending);
+    check(&rt, whole, WriteLimit::of(all_but_one), ending);
 }
 
 #[test]
 fn a_failed_flush_is_told_after_the_last_line_and_hides_no_fault(rt: HostRuntime) {
     let whole = Given::all(HAND_OVER.as_bytes());
     let ending = (TRANSCRIPT, "ntrun: line 7: write failed\n", 1);
-    check(&rt, whole, Room::NEVER_FLUSHED, ending);
+    check(&rt, whole, WriteLimit::NEVER_FLUSHED, ending);
     let faulty = Given::all(b"threads 1\nt0 event e\nt0 sett e\n");
     let ending = ("2: handle 1\n", "ntrun: line 3: unknown word\n", 2);
-    check(&rt, faulty, Room::NEVER_FLUSHED, ending);
+    check(&rt, faulty, WriteLimit::NEVER_FLUSHED, ending);
 }
 
 #[test]
 fn a_write_of_no_bytes_is_a_failure(rt: HostRuntime) {
     let given = Given::all(b"threads 1\nt0 next\nt0 event e\n");
     let ending = ("", "ntrun: line 2: write failed\n", 1);
-    check(&rt, given, Room::NONE, ending);
+    check(&rt, given, WriteLimit::NONE, ending);
 }

@@ -54,44 +54,44 @@ impl<'a> Read for Given<'a> {
 
 /// How much a writer takes.
 #[derive(Clone, Copy)]
-pub struct Room {
+pub struct WriteLimit {
     whole: usize,
     at_once: usize,
     flushes: bool,
 }
 
-impl Room {
+impl WriteLimit {
     /// Whatever is written.
-    pub const ENDLESS: Room = Room {
+    pub const ENDLESS: WriteLimit = WriteLimit {
         whole: usize::MAX,
         at_once: usize::MAX,
         flushes: true,
     };
 
     /// A byte a write.
-    pub const ONE_BY_ONE: Room = Room {
+    pub const ONE_BY_ONE: WriteLimit = WriteLimit {
         whole: usize::MAX,
         at_once: 1,
         flushes: true,
     };
 
     /// Nothing, and the writer says so.
-    pub const NONE: Room = Room {
+    pub const NONE: WriteLimit = WriteLimit {
         whole: usize::MAX,
         at_once: 0,
         flushes: true,
     };
 
     /// All bytes, but the writer fails to hand them on.
-    pub const NEVER_FLUSHED: Room = Room {
+    pub const NEVER_FLUSHED: WriteLimit = WriteLimit {
         whole: usize::MAX,
         at_once: usize::MAX,
         flushes: false,
     };
 
     /// Takes `whole` bytes, and then the writer fails.
-    pub fn of(whole: usize) -> Room {
-        Room {
+    pub fn of(whole: usize) -> WriteLimit {
+        WriteLimit {
             whole,
             at_once: usize::MAX,
             flushes: true,
@@ -101,16 +101,16 @@ impl Room {
 
 /// A writer that keeps what it takes.
 #[derive(Drop)]
-pub struct Taken {
+pub struct MemoryWriter {
     pub bytes: Vec<u8>,
     /// Whether the memory to keep it was refused.
     pub is_refused: bool,
-    room: Room,
+    room: WriteLimit,
 }
 
-impl Taken {
-    pub fn new(alloc: Global, room: Room) -> Taken {
-        Taken {
+impl MemoryWriter {
+    pub fn new(alloc: Global, room: WriteLimit) -> MemoryWriter {
+        MemoryWriter {
             bytes: Vec::new(alloc),
             is_refused: false,
             room,
@@ -118,7 +118,7 @@ impl Taken {
     }
 }
 
-impl Write for Taken {
+impl Write for MemoryWriter {
     fn write(&mut self, buf: &[u8]) -> io::Result<usize> {
         if self.room.whole == 0 {
             return Err(io::Error::from(ErrorKind::Interrupted));

@@ -5,9 +5,9 @@ use std::io::Print;
 use std::process::Abort;
 
 /// What the tests want of the system.
-pub trait Host: Abort + AllocGlobal + Env + Print {}
+pub trait ProgramHost: Abort + AllocGlobal + Env + Print {}
 
-impl<R: Abort + AllocGlobal + Env + Print> Host for R {}
+impl<R: Abort + AllocGlobal + Env + Print> ProgramHost for R {}
 
 /// Whether growths are refused on purpose, as `tests/growths/tests` does: it sets REFUSE. This takes no memory itself.
 pub fn is_refusing(rt: &impl Env) -> bool {
@@ -17,7 +17,7 @@ pub fn is_refusing(rt: &impl Env) -> bool {
 
 /// Tells that a growth was refused, and whose it was. That is right only in a run that refuses one on purpose:
 /// `tests/growths/tests` wants exactly one such line of each test.
-pub fn tell_refused(rt: &impl Host, whose: &str) {
+pub fn tell_refused(rt: &impl ProgramHost, whose: &str) {
     assert!(rt; is_refusing(rt), "out of memory with ample memory: {whose}");
     assert!(rt; println!(rt; "refused: {whose}").is_ok());
 }

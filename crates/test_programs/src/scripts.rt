@@ -2,9 +2,9 @@
 //! `tests/scripts`.
 
 use crate::commands::{HAND_OVER, Ran, run_over};
-use crate::devices::{Given, Room, Taken};
+use crate::devices::{Given, MemoryWriter, WriteLimit};
 use crate::expect::{expect, expect_at};
-use crate::refused::{Host, is_refusing};
+use crate::refused::{ProgramHost, is_refusing};
 use nt_script::{Counted, RunFault, Summary, run};
 
 /// A thread whose sleep an APC ends, and which takes its APCs.
@@ -37,7 +37,7 @@ fn line_at(script: &[u8], place: usize) -> u64 {
 
 /// Whether a place is looked at: each is. Where growths are refused only each 50th is, since each growth is then one more run. They
 /// begin at 49, in lines that ask for no memory, since a refusal shows nowhere where the writer takes nothing further.
-fn is_looked_at(rt: &impl Host, place: usize) -> bool {
+fn is_looked_at(rt: &impl ProgramHost, place: usize) -> bool {
     !is_refusing(rt) || place % 50 == 49
 }
 
@@ -48,31 +48,31 @@ fn said_of_line(said: &[u8], line: u64) -> Option<&[u8]> {
     said.strip_prefix(buffer.format(line).as_bytes())
 }
 
-fn check_failed_read(rt: &impl Host, script: &[u8], place: usize, whole: &[u8]) {
-    let ran = run_over(rt, Given::failing_after(script, place), Room::ENDLESS);
+fn check_failed_read(rt: &impl ProgramHost, script: &[u8], place: usize, whole: &[u8]) {
+    let ran = run_over(rt, Given::failing_after(script, place), WriteLimit::ENDLESS);
     let said = said_of_line(ran.said.as_slice(), line_at(script, place));
     let is_told = said == Some(b": read failed\n".as_slice()) && ran.status == 1;
     let is_beginning = whole.starts_with(ran.written.as_slice());
     expect_at(rt, is_told && is_beginning, "a read after", place as u64);
 }
 
-fn check_failed_write(rt: &impl Host, script: &[u8], room: usize, whole: &[u8]) {
-    let ran = run_over(rt, Given::all(script), Room::of(room));
+fn check_failed_write(rt: &impl ProgramHost, script: &[u8], room: usize, whole: &[u8]) {
+    let ran = run_over(rt, Given::all(script), WriteLimit::of(room));
     let is_told = ran.said.as_slice().ends_with(b": write failed\n") && ran.status == 1;
     let is_beginning = Some(ran.written.as_slice()) == whole.get(..room);
     expect_at(rt, is_told && is_beginning, "room for", room as u64);
 }
 
-fn check_one_by_one(rt: &impl Host, script: &[u8], whole: &Ran) {
-    let ran = run_over(rt, Given::one_by_one(script), Room::ONE_BY_ONE);
+fn check_one_by_one(rt: &impl ProgramHost, script: &[u8], whole: &Ran) {
+    let ran = run_over(rt, Given::one_by_one(script), WriteLimit::ONE_BY_ONE);
     let is_same = ran.written.as_slice() == whole.written.as_slice();
     expect(rt, is_same && ran.status == 0, "bytes one by one");
 }
 
 /// A reader that fails ends the run at its line, and a writer that fails holds a beginning of the transcript, which is the same for bytes
 /// one by one.
-fn check_devices(rt: &impl Host, script: &[u8]) {
-    let whole = run_over(rt, Given::all(script), Room::ENDLESS);
+fn check_devices(rt: &impl ProgramHost, script: &[u8]) {
+    let whole = run_over(rt, Given::all(script), WriteLimit::ENDLESS);
     check_one_by_one(rt, script, &whole);
     for place in 0..=script.len() {
         if is_looked_at(rt, place) {
@@ -97,8 +97,8 @@ fn a_device_that_fails_ends_a_run_of_apcs(rt: HostRuntime) {
 }
 
 /// What a run of the script answers.
-fn answer_of(rt: &impl Host, script: &[u8]) -> Result<Summary, RunFault> {
-    let mut taken = Taken::new(rt.alloc(), Room::ENDLESS);
+fn answer_of(rt: &impl ProgramHost, script: &[u8]) -> Result<Summary, RunFault> {
+    let mut taken = MemoryWriter::new(rt.alloc(), WriteLimit::ENDLESS);
     let mut writer = Counted::new(&mut taken);
     run(rt.alloc(), &mut Counted::new(script), &mut writer)
 }

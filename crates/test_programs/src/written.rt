@@ -1,7 +1,7 @@
 //! Calls, written as the lines of a script.
 
 use crate::expect::{expect, expect_equal};
-use crate::refused::{Host, tell_refused};
+use crate::refused::{ProgramHost, tell_refused};
 use nt_core::{Act, Call, Reply, WaitCall, WaitMode};
 use nt_status::{Handle, Handles, Refusal, ThreadId};
 use nt_written::{Unwritten, write_line};
@@ -222,7 +222,7 @@ fn written(
 }
 
 /// The line is the one expected, or there is none for the reason expected.
-fn check(rt: &impl Host, row: &Row) {
+fn check(rt: &impl ProgramHost, row: &Row) {
     let Row(who, said, created, line) = *row;
     let found = written(rt.alloc(), who, said, created);
     if matches!(found, Err(Unwritten::Memory)) {

@@ -1,17 +1,22 @@
 //! What is reported of threads that run.
 
 use crate::commands::Ran;
-use crate::devices::{Room, Taken};
+use crate::devices::{MemoryWriter, WriteLimit};
 use crate::expect::{expect, expect_at};
-use crate::refused::{Host, is_refusing, tell_refused};
+use crate::refused::{ProgramHost, is_refusing, tell_refused};
 use nt_commands::threads_over;
 use nt_devices::Counted;
 use std::sync::Wait;
 use std::thread::Threads;
 
-fn run_once<R: Host + Threads + Wait + Sync>(rt: &R, workers: u32, rounds: u32, room: Room) -> Ran {
-    let mut taken = Taken::new(rt.alloc(), room);
-    let mut errors = Taken::new(rt.alloc(), Room::ENDLESS);
+fn run_once<R: ProgramHost + Threads + Wait + Sync>(
+    rt: &R,
+    workers: u32,
+    rounds: u32,
+    room: WriteLimit,
+) -> Ran {
+    let mut taken = MemoryWriter::new(rt.alloc(), room);
+    let mut errors = MemoryWriter::new(rt.alloc(), WriteLimit::ENDLESS);
     let status = threads_over(
         rt,
         rt.alloc(),
@@ -24,11 +29,11 @@ fn run_once<R: Host + Threads + Wait + Sync>(rt: &R, workers: u32, rounds: u32, 
 }
 
 /// Runs the threads, a second time where memory is refused.
-fn run_at_last<R: Host + Threads + Wait + Sync>(
+fn run_at_last<R: ProgramHost + Threads + Wait + Sync>(
     rt: &R,
     workers: u32,
     rounds: u32,
-    room: Room,
+    room: WriteLimit,
 ) -> Ran {
     let ran = run_once(rt, workers, rounds, room);
     if !ran.is_refused() {
@@ -60,7 +65,7 @@ fn workers_make_rounds(rt: HostRuntime) {
         ),
     ] {
         if workers == 1 || !is_refusing(&rt) {
-            let ran = run_at_last(&rt, workers, rounds, Room::ENDLESS);
+            let ran = run_at_last(&rt, workers, rounds, WriteLimit::ENDLESS);
             expect(&rt, ran.is(lines, "", 0), lines);
         }
     }
@@ -70,7 +75,7 @@ fn workers_make_rounds(rt: HostRuntime) {
 fn other_counts_get_the_usage(rt: HostRuntime) {
     let usage = "ntrun: usage: ntrun script FILE or ntrun threads N ROUNDS\n";
     for (workers, rounds) in [(0, 1), (1, 0), (65, 1), (1, 1001), (u32::MAX, u32::MAX)] {
-        let ran = run_at_last(&rt, workers, rounds, Room::ENDLESS);
+        let ran = run_at_last(&rt, workers, rounds, WriteLimit::ENDLESS);
         expect_at(&rt, ran.is("", usage, 2), "workers", u64::from(workers));
     }
 }
@@ -78,10 +83,10 @@ fn other_counts_get_the_usage(rt: HostRuntime) {
 #[test]
 fn a_failed_write_is_told(rt: HostRuntime) {
     for (room, written) in [
-        (Room::of(12), "threads 1\nro"),
-        (Room::NONE, ""),
+        (WriteLimit::of(12), "threads 1\nro"),
+        (WriteLimit::NONE, ""),
         (
-            Room::NEVER_FLUSHED,
+            WriteLimit::NEVER_FLUSHED,
             "threads 1\nrounds 1\nacquired 1\nreleased 1\nsemaphore 1\nabandoned 0\n",
         ),
     ] {

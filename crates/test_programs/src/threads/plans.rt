@@ -2,7 +2,7 @@
 ghost use Rattle.std.specs.Prelude.{◌≤◌};
 
 use crate::expect::{expect, expect_at, expect_equal};
-use crate::refused::{Host, is_refusing, tell_refused};
+use crate::refused::{ProgramHost, is_refusing, tell_refused};
 use crate::threads::door::MemoryDoor;
 use crate::threads::hall::{Hall, ToHall};
 use nt_core::{Act, Call};
@@ -83,7 +83,7 @@ fn carry_out<R: Threads + Wait + Sync>(
 }
 
 /// Carries out the plan, where memory is refused too, and looks at what was made. Every thread has ended then.
-fn check<R: Host + Threads + Wait + Sync>(rt: &R, workers: u16, rounds: u32, wanted: Made)
+fn check<R: ProgramHost + Threads + Wait + Sync>(rt: &R, workers: u16, rounds: u32, wanted: Made)
     requires workers { workers ≤ 64 }
     requires rounds { rounds ≤ 1000 }
 {
