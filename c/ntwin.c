@@ -6,15 +6,15 @@
  * deadline at the longest. Who makes a call writes under the lock into the words of those whose waits it ended, gives the lock back, and
  * wakes those of them that sleep. One of the threads that wait for timers keeps the time for them all.
  *
- * Its parts are one file for the compiler: so no inner name meets one of a program's, and the short ones are written in line. */
+ * Its parts are one file for the compiler: so no inner name meets one of a program's, and the short ones are written in line. Each also compiles by
+ * itself (c/tests/alone). What crosses them is in ntwin/internal.h, which is the file to read first. */
 #define _GNU_SOURCE
-#include "ntwin/inside.h"
-#include "schedule/own.h"
+#define NTWIN_ONE_UNIT
+#include "ntwin/globals.c"
 
 #ifdef CHECKS_WAITING
 #include "ntwin/check.c"
 #endif
-#include "schedule/hooks.h"
 
 #include "ntwin/words.c"
 

@@ -2,11 +2,13 @@
 /* ---- Handles. The two lowest bits are the program's own. Above them stand the number of the dispatcher's handle, in 16 bits, and how often it was
  * given to the program, in 14. So a handle that was closed is refused, though its number was given again, until it was given 16,382 times more.
  * Threads' own handles are given to nobody. */
+#include "by_pointer.h"
+#include "../win32/internal.h"
 
 enum { COUNT_AT = 18, MOST_COUNT = 0x3FFE }; /* (No pseudo handle has such a count, nor has NULL one from 1 on.) */
 
 /* Gives the handle with this number to the program, under the lock. */
-static HANDLE give_handle(uint32_t number)
+NTW_INTERNAL HANDLE give_handle(uint32_t number)
 {
     const uint32_t count = waiting.given[number] >> COUNT_AT, value = (count < MOST_COUNT ? count + 1 : 1) << COUNT_AT | number << 2;
     __atomic_store_n(&waiting.given[number], value, __ATOMIC_RELAXED);
@@ -15,34 +17,34 @@ static HANDLE give_handle(uint32_t number)
 
 /* The number of a handle that is no pseudo handle; NO_HANDLE if the program has no such handle. Under the lock, or where the program has that handle
  * for as long as its call lasts. */
-static inline uint32_t listed_number_of(HANDLE handle)
+NTW_INLINE uint32_t listed_number_of(HANDLE handle)
 {
     const uint32_t value = (uint32_t)(uintptr_t)handle, number = value >> 2 & (NT_MAXIMUM_HANDLES - 1);
     return __atomic_load_n(&waiting.given[number], __ATOMIC_RELAXED) == (value & ~3u) ? number : NO_HANDLE;
 }
 
 /* The number of a handle, under the lock, which may be the caller's pseudo handle of itself. */
-static inline uint32_t number_of(const struct seat *caller, HANDLE handle)
+NTW_INLINE uint32_t number_of(const struct seat *caller, HANDLE handle)
 {
     const uint32_t number = listed_number_of(handle);
     return number == NO_HANDLE && handle == CURRENT_THREAD ? caller->handle : number;
 }
 
 /* The number of the thread that this number names, where it names one. */
-static uint16_t thread_of(uint32_t number)
+NTW_INTERNAL uint16_t thread_of(uint32_t number)
 {
     return number < NT_MAXIMUM_HANDLES ? waiting.threads[number] : 0;
 }
 
 /* The seat of that thread, or what it was. */
-static struct seat *seat_of(uint32_t number)
+NTW_INTERNAL struct seat *seat_of(uint32_t number)
 {
     struct past *past = number < NT_MAXIMUM_HANDLES ? waiting.pasts[number] : NULL;
     return past != NULL ? &past->seat : &waiting.seats[thread_of(number)];
 }
 
 /* From now on, under the lock, the one number names the thread that the other names. */
-static void name_same_thread(uint32_t number, uint32_t other)
+NTW_INTERNAL void name_same_thread(uint32_t number, uint32_t other)
 {
     waiting.threads[number] = thread_of(other);
     waiting.pasts[number] = other < NT_MAXIMUM_HANDLES ? waiting.pasts[other] : NULL;
@@ -61,13 +63,13 @@ static void forget_past(uint32_t number)
     free(past);
 }
 
-static enum kind kind_of(uint32_t number)
+NTW_INTERNAL enum kind kind_of(uint32_t number)
 {
     return number < NT_MAXIMUM_HANDLES ? (enum kind)waiting.kinds[number] : KIND_THREAD;
 }
 
 /* From now on, under the lock, the handle with this number names nothing. It is refused only where it named nothing before. */
-static uint32_t close_number(struct seat *caller, uint32_t number)
+NTW_INTERNAL uint32_t close_number(struct seat *caller, uint32_t number)
 {
     const uint32_t refused = nt_close_handle(&waiting.dispatcher, caller->number, number, &caller->reply);
     look_for_timers();
@@ -86,7 +88,7 @@ static uint32_t close_number(struct seat *caller, uint32_t number)
 }
 
 /* As `close_number`, for a call of the program. The port that goes with the last handle is in `port`, to be closed without the lock; else null. */
-static uint32_t close_programs_number(struct seat *caller, uint32_t number, struct port **port)
+NTW_INTERNAL uint32_t close_programs_number(struct seat *caller, uint32_t number, struct port **port)
 {
     const uint32_t refused = close_number(caller, number);
     *port = refused == 0 ? forget_port(number) : NULL;
@@ -110,7 +112,7 @@ static const struct {
 };
 
 /* The rights for which this access stands, to an object of this kind. */
-static DWORD rights_of(enum kind kind, DWORD access)
+NTW_INTERNAL DWORD rights_of(enum kind kind, DWORD access)
 {
     DWORD rights = access & (SYNCHRONIZE | NT_MODIFY_STATE | THREAD_SET_CONTEXT);
     if ((access & GENERIC_ALL) != 0)
@@ -125,7 +127,7 @@ static DWORD rights_of(enum kind kind, DWORD access)
 /* ---- A call: the caller joins and takes the lock, makes the call, and gives the lock back. */
 
 /* The caller's seat, with the lock taken; null, with the last error set, where it has none, or can't take the lock. */
-__attribute__((always_inline)) static inline struct seat *begin(void)
+NTW_ALWAYS_INLINE struct seat *begin(void)
 {
     struct seat *seat = join();
     return seat != NULL && __builtin_expect(lock(seat), true) ? seat : NULL;
@@ -139,7 +141,7 @@ __attribute__((noinline, cold)) static BOOL fail_call(struct seat *seat, uint32_
 }
 
 /* Gives the lock back, wakes whom the call granted, and answers whether it was accepted. */
-static inline BOOL finish(struct seat *seat, uint32_t refused)
+NTW_INLINE BOOL finish(struct seat *seat, uint32_t refused)
 {
     if (refused != 0)
         return fail_call(seat, refused);
@@ -148,34 +150,21 @@ static inline BOOL finish(struct seat *seat, uint32_t refused)
 }
 
 /* The same where the dispatcher was asked nothing, or has refused: what its last call has ended was reported already. */
-static inline BOOL end_look(struct seat *seat, uint32_t refused)
+NTW_INLINE BOOL end_look(struct seat *seat, uint32_t refused)
 {
     unlock_and_wake(seat);
     return refused == 0 || fail(refused);
 }
 
 /* The rights that a creation or an opening of this kind asks for. */
-static DWORD rights_asked(enum kind kind, DWORD access)
+NTW_INTERNAL DWORD rights_asked(enum kind kind, DWORD access)
 {
     const DWORD full = rights_of_kinds[kind].all;
     return (access & MAXIMUM_ALLOWED) != 0 ? full : rights_of(kind, access) & full;
 }
 
-/* A call of the dispatcher that makes an object by its flags. */
-typedef uint32_t creation(struct nt *nt, uint32_t who, uint32_t flags, struct nt_reply *reply);
-
-/* What a creation asks for. */
-struct wanted {
-    enum kind kind;
-    creation *make;         /* null for a semaphore, which has these two: */
-    LONG initial, maximum;
-    DWORD flags, known_flags;
-    DWORD access;
-    const void *place;      /* where in the program it was called */
-};
-
 /* The object that this handle names was created, under the lock, and has no name that the program calls it by. */
-static void note_made(uint32_t number, const void *place)
+NTW_INTERNAL void note_made(uint32_t number, const void *place)
 {
     struct nt_opened opened;
     if (nt_opened(&waiting.dispatcher, number, &opened) != 0)
@@ -235,7 +224,7 @@ static uint32_t make_without_name(struct seat *seat, const struct wanted *wanted
 }
 
 /* What a creation answers: its handle, with this last error. */
-static HANDLE finish_creation(struct seat *seat, uint32_t refused, const struct nt_reply *reply, DWORD error)
+NTW_INTERNAL HANDLE finish_creation(struct seat *seat, uint32_t refused, const struct nt_reply *reply, DWORD error)
 {
     HANDLE made = refused == 0 ? give_handle(reply->number) : NULL;
     if (finish(seat, refused))
@@ -268,7 +257,7 @@ static HANDLE create_named(const struct wanted *wanted, struct given_name given)
 }
 
 /* An empty name is no name. */
-static HANDLE create(const struct wanted *wanted, struct given_name given)
+NTW_INTERNAL HANDLE create(const struct wanted *wanted, struct given_name given)
 {
     struct nt_reply reply;
     const bool is_semaphore = wanted->kind == KIND_SEMAPHORE;

@@ -1,5 +1,9 @@
 /* SPDX-License-Identifier: MIT OR Apache-2.0 */
 /* What always holds of `waiting` (inside.h), for the tests: whenever the lock is given back. */
+#ifndef CHECKS_WAITING
+#define CHECKS_WAITING
+#endif
+#include "internal.h"
 
 static void holds(bool it, const char *what)
 {
@@ -52,7 +56,7 @@ static bool is_taken(void)
     return seen < FAVOURS ? seen != FREE : atomic_load_explicit(&waiting.seats[seen - FAVOURS].inside, memory_order_relaxed) != 0;
 }
 
-static void check_waiting(void)
+NTW_INTERNAL void check_waiting(void)
 {
     struct found found = { 0, 0, NEVER, NEVER };
     uint64_t next = NEVER;
@@ -76,14 +80,14 @@ static void check_waiting(void)
 }
 
 /* Whether the last call named nobody. */
-static void check_told_nobody(void)
+NTW_INTERNAL void check_told_nobody(void)
 {
     struct nt_told told;
     holds((nt_told)(&waiting.dispatcher, 0, &told) != 0, "a wait that ended at once has ended no other, and called nobody");
 }
 
 /* Whether no handle of the program names the thread of this seat. */
-static void check_unnamed(const struct seat *seat)
+NTW_INTERNAL void check_unnamed(const struct seat *seat)
 {
     struct nt_opened opened;
     for (uint32_t number = 0; number < NT_MAXIMUM_HANDLES; number++)

@@ -1,5 +1,6 @@
 /* SPDX-License-Identifier: MIT OR Apache-2.0 */
 /* ---- What was done last to an object, as a report tells it, under the lock: as it is noted (noted.c). */
+#include "internal.h"
 
 /* How long ago that was, by the coarse clock. */
 static void write_time_since(struct report *to, uint64_t when)
@@ -70,7 +71,7 @@ static void write_signal(struct report *to, uint32_t kind, const struct noted *i
 }
 
 /* What was done last to the object, where that is noted. */
-static void write_deed(struct report *to, uint32_t number, const struct nt_object *object)
+NTW_INTERNAL void write_deed(struct report *to, uint32_t number, const struct nt_object *object)
 {
     if (noted == NULL)
         return;

@@ -2,9 +2,10 @@
 /* ---- When timers are due for a thread. It wakes for those by itself: for the timers that its wait names as they stand when it begins, and, where
  * its wait is alertable, for those that it has set with a routine. Nobody else can bring the latter forward, so it minds them alone: nobody
  * has to tell it of them, and it wakes for nobody else's. It minds a few; a thread that sets more of them at once is a watcher. */
+#include "internal.h"
 
 /* When the timer that is this object is due, under the lock: NEVER where it is not set. */
-static uint64_t due_of(uint32_t object)
+NTW_INTERNAL uint64_t due_of(uint32_t object)
 {
     struct nt_object timer;
     return nt_object(&waiting.dispatcher, object, &timer) == 0 && timer.armed ? timer.due : NEVER;
@@ -12,7 +13,7 @@ static uint64_t due_of(uint32_t object)
 
 /* When the first of the timers that the thread minds is due, under the lock; NEVER where none is. Those that are no longer set, or by another
  * thread, it minds no longer. */
-static uint64_t first_minded(struct seat *seat)
+NTW_INTERNAL uint64_t first_minded(struct seat *seat)
 {
     uint64_t first = NEVER;
     uint32_t minded = 0;
@@ -43,7 +44,7 @@ static void mind(struct seat *seat, uint32_t object)
 }
 
 /* The caller has set the timer with this number, under the lock: the routine, if it has one, is the caller's. */
-static void note_routine(struct seat *seat, uint32_t timer, bool has_routine)
+NTW_INTERNAL void note_routine(struct seat *seat, uint32_t timer, bool has_routine)
 {
     struct nt_opened opened;
     if (nt_opened(&waiting.dispatcher, timer, &opened) != 0)

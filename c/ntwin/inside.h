@@ -3,6 +3,24 @@
 #ifndef NTWIN_INSIDE_H
 #define NTWIN_INSIDE_H
 
+#ifndef _GNU_SOURCE
+#define _GNU_SOURCE
+#endif
+
+/* What crosses files and is no call of the library. In the one unit that ntwin.c makes of all files it is static: so no inner name meets one of a
+ * program's, and the short ones are written in line. A file by itself compiles, too, for whatever reads one at a time: there it is a hidden name. */
+#ifdef NTWIN_ONE_UNIT
+#define NTW_INTERNAL static
+#define NTW_VARIABLE static /* (in a header: a variable that some file defines) */
+#define NTW_INLINE static inline
+#define NTW_ALWAYS_INLINE __attribute__((always_inline)) static inline
+#else
+#define NTW_INTERNAL __attribute__((visibility("hidden")))
+#define NTW_VARIABLE extern NTW_INTERNAL
+#define NTW_INLINE NTW_INTERNAL
+#define NTW_ALWAYS_INLINE NTW_INTERNAL
+#endif
+
 #include "../ntwin.h"
 #include "../nt.h"
 #include "../win/windows.h"
@@ -199,11 +217,11 @@ struct own {
     volatile uint32_t latches; /* how many latches it has, or waits for, which its handlers of signals read (win32/latch.c) */
 };
 #ifndef own
-static _Thread_local struct own own __attribute__((tls_model("initial-exec")));
+NTW_VARIABLE _Thread_local struct own own __attribute__((tls_model("initial-exec")));
 #endif
 
 /* What is written as the dispatcher is opened, by one thread at a time, and as the process forks. */
-static struct {
+struct process {
     pthread_mutex_t opening;
     bool is_open;
     bool has_key;
@@ -214,7 +232,8 @@ static struct {
     bool is_forked;         /* this is a child of a process with threads that are not here, */
     struct runner *lost;    /* these among them */
     uint64_t start;         /* the dispatcher's moment 0, on the monotonic clock */
-} process = { .opening = PTHREAD_MUTEX_INITIALIZER };
+};
+NTW_VARIABLE struct process process;
 
 /* What is kept under the lock. Whenever that is given back, this holds (check.c):
  *   - as many waits pend in the dispatcher as `pending` says, and the word of none of their threads is IS_GRANTED;
@@ -224,7 +243,7 @@ static struct {
  *   - who minds timers sleeps no longer than to the first of them, and some thread no longer than to `kept_to`;
  *   - no timer is due before `timers_due`;
  *   - nobody is left to be woken: `wakes` is 0. */
-static struct {
+struct waiting {
     _Atomic uint32_t lock;
     uint32_t turn;           /* the seat whose thread took the lock last, but not as the favoured one, */
     uint32_t turns_left;     /* how often more it has to take it, with no other between, until the lock favours it, */
@@ -255,33 +274,7 @@ static struct {
     uint16_t minders[NT_MAXIMUM_HANDLES]; /* of a timer, by its own number: the seat, from 1 on, whose thread set it last, with a routine; or 0 */
     const void *made_at[NT_MAXIMUM_HANDLES]; /* of an object, by its own number: where in the program it was created, or null; */
     char *called[NT_MAXIMUM_HANDLES];  /* and how ntwin_name calls it, or null */
-} waiting;
-
-/* Why threads wait, under the lock, and telling that on standard error, without it (looking.c). */
-static char *text_of_knot(void);
-static void tell_knot(struct seat *caller, char *text);
-
-/* The process forks: nobody tells meanwhile why threads wait. A child that was forked goes on without a journal, and without a thread that takes
- * SIGQUIT. */
-static void rest_from_telling(void);
-static void go_on_telling(void);
-static void stop_looking(void);
-
-#ifdef CHECKS_WAITING
-static void check_waiting(void);
-static void check_told_nobody(void);
-static void check_unnamed(const struct seat *seat);
-#else
-static inline void check_waiting(void)
-{
-}
-static inline void check_told_nobody(void)
-{
-}
-static inline void check_unnamed(const struct seat *seat)
-{
-    (void)seat;
-}
-#endif
+};
+NTW_VARIABLE struct waiting waiting;
 
 #endif

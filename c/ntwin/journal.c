@@ -1,29 +1,13 @@
 /* SPDX-License-Identifier: MIT OR Apache-2.0 */
 /* ---- The journal of a run: each call of the dispatcher, each tick and each name, as a line of a script (docs/SCRIPTS.md). It is a file that is
  * mapped, so a line stays there however the process ends. What is not written yet are blank lines. All of this is under the lock. */
+#include "internal.h"
 
-enum {
-    JOURNAL_STEP = 1 << 20, /* the bytes by which the file grows */
-    BLANK_LINE = 2048,      /* so long is a blank line (and one that is broken off goes on to its end, which a reader has to stand) */
-    LONGEST_LINE = 1024,    /* the bytes that are left for a line, and for one more that ends the journal */
-    LONGEST_NAME = 64
-};
-
-static struct {
-    char *text;          /* null where no journal is written, or no longer */
-    size_t length, room; /* of the text, and of what is mapped */
-    int file;
-    dev_t device;        /* which file that is: a program may close what it did not open */
-    ino_t node;
-} journal;
+NTW_INTERNAL struct journal journal;
 
 /* ---- The caller is not ended by a signal where it writes what nobody reads, or more than a file may hold. */
 
-struct quiet {
-    sigset_t signals, before, pended;
-};
-
-static void begin_quiet(struct quiet *it)
+NTW_INTERNAL void begin_quiet(struct quiet *it)
 {
     sigemptyset(&it->signals);
     sigaddset(&it->signals, SIGPIPE);
@@ -33,7 +17,7 @@ static void begin_quiet(struct quiet *it)
 }
 
 /* A signal that came of it is taken. */
-static void end_quiet(struct quiet *it)
+NTW_INTERNAL void end_quiet(struct quiet *it)
 {
     const struct timespec now = { 0, 0 };
     if (sigismember(&it->pended, SIGPIPE))
@@ -47,14 +31,14 @@ static void end_quiet(struct quiet *it)
 
 /* ---- Lines. Each begins as a comment, and has its first letter once it is whole: so one that is broken off is no call. */
 
-static inline char *put_text(char *at, const char *text)
+NTW_INLINE char *put_text(char *at, const char *text)
 {
     const size_t length = strlen(text);
     memcpy(at, text, length);
     return at + length;
 }
 
-static inline char *put_number(char *at, uint64_t number)
+NTW_INLINE char *put_number(char *at, uint64_t number)
 {
     char digits[20];
     int count = 0;
@@ -66,7 +50,7 @@ static inline char *put_number(char *at, uint64_t number)
     return at;
 }
 
-static inline char *put_signed(char *at, int64_t number)
+NTW_INLINE char *put_signed(char *at, int64_t number)
 {
     if (number < 0)
         *at++ = '-';
@@ -74,7 +58,7 @@ static inline char *put_signed(char *at, int64_t number)
 }
 
 /* The line that was begun ends here, and begins with this letter. */
-static inline void end_line(char *at, char first)
+NTW_INLINE void end_line(char *at, char first)
 {
     char *line = journal.text + journal.length;
     *at++ = '\n';
@@ -89,7 +73,7 @@ static bool has_its_file(void)
 }
 
 /* The journal ends, and its file is no longer than it. */
-static void close_journal(void)
+NTW_INTERNAL void close_journal(void)
 {
     const int error = errno;
     munmap(journal.text, journal.room);
@@ -112,7 +96,7 @@ static void end_journal(const char *why)
 
 /* Numbers ran out, under the lock, of these: in a journal each names one of them alone. So the journal ends, and from now on numbers are given again.
  * Answers whether that is new: not where they were given again before, or memory is refused for it. */
-static bool give_numbers_again(const char *why)
+NTW_INTERNAL bool give_numbers_again(const char *why)
 {
     if (!waiting.gives_once)
         return false;
@@ -158,7 +142,7 @@ __attribute__((noinline, cold)) static bool grow_journal(void)
 }
 
 /* Where a line goes on after its first letter; null where there is no journal. */
-static inline char *begin_line(void)
+NTW_INLINE char *begin_line(void)
 {
     if (journal.text == NULL || (journal.room - journal.length < 2 * LONGEST_LINE && !grow_journal()))
         return NULL;
@@ -169,7 +153,7 @@ static inline char *begin_line(void)
 }
 
 /* Begins the line of a call of this thread. A call for which memory was refused is none in another run, and so it is a comment. */
-static inline char *begin_call(uint32_t refused, uint32_t who, const char *word)
+NTW_INLINE char *begin_call(uint32_t refused, uint32_t who, const char *word)
 {
     char *at = begin_line();
     if (at == NULL)
@@ -181,13 +165,13 @@ static inline char *begin_call(uint32_t refused, uint32_t who, const char *word)
     return put_text(at, word);
 }
 
-static inline void end_call(uint32_t refused, char *at)
+NTW_INLINE void end_call(uint32_t refused, char *at)
 {
     end_line(at, refused == NT_ERROR_NOT_ENOUGH_MEMORY ? ';' : 't');
 }
 
 /* How a wait waits, and for what. */
-static inline char *put_wait(char *at, uint32_t ms, bool alertable, const uint32_t *handles, size_t count)
+NTW_INLINE char *put_wait(char *at, uint32_t ms, bool alertable, const uint32_t *handles, size_t count)
 {
     *at++ = ' ';
     at = ms == NT_INFINITE ? put_text(at, WORD_INF) : put_number(at, ms);
@@ -200,7 +184,7 @@ static inline char *put_wait(char *at, uint32_t ms, bool alertable, const uint32
 }
 
 /* What this number names has a name, which is no longer than the longest: a comment says so. */
-static void write_name(uint32_t number, const char *name)
+NTW_INTERNAL void write_name(uint32_t number, const char *name)
 {
     char *at = begin_line();
     if (at == NULL)
@@ -214,7 +198,7 @@ static void write_name(uint32_t number, const char *name)
 }
 
 /* So has this thread. */
-static void write_description(uint32_t number, const WCHAR *description)
+NTW_INTERNAL void write_description(uint32_t number, const WCHAR *description)
 {
     char name[LONGEST_NAME + 1];
     size_t length = 0;
@@ -236,7 +220,7 @@ static bool takes_file(void)
 }
 
 /* Begins a journal in this file, before the first call. Answers 0, or the system's error. */
-static int open_journal(const char *path)
+NTW_INTERNAL int open_journal(const char *path)
 {
     journal.file = open(path, O_RDWR | O_CREAT | O_CLOEXEC, 0666);
     if (journal.file < 0)

@@ -1,10 +1,11 @@
 /* SPDX-License-Identifier: MIT OR Apache-2.0 */
 /* ---- Which threads hold each other, as the dispatcher tells it (nt_why), under the lock. */
+#include "internal.h"
 
-static bool tells_knots; /* written before main */
+NTW_INTERNAL bool tells_knots; /* written before main */
 
 /* Marks those that make no further call, or have made none yet. */
-static void mark_those_over(bool over[NT_MANY_THREADS])
+NTW_INTERNAL void mark_those_over(bool over[NT_MANY_THREADS])
 {
     for (uint32_t i = 0; i < waiting.places; i++)
         over[i] = i >= waiting.seated || waiting.seats[i].is_gone;
@@ -74,7 +75,7 @@ static bool is_new_knot(const bool *knot)
 
 /* Has the caller tell of a knot that its call has tied, as it gives the lock back. (It wakes itself where it wakes nobody, and so comes to
  * `unlock_and_wake_all`.) */
-static void look_for_knot(void)
+NTW_INTERNAL void look_for_knot(void)
 {
     bool over[NT_MANY_THREADS], knot[NT_MANY_THREADS];
     struct nt_why why;

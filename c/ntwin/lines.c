@@ -2,8 +2,7 @@
 /* ---- Files and lines of places, as addr2line tells them, where it is in PATH as the report is written. It runs as a child's child, since a child that
  * has become another program raises SIGCHLD as it ends, and is found by a wait for any child. The child between raises none, and leaves at once. (Whoever
  * adopts what is left of processes, as the first process of a container does, adopts this one, too.) */
-
-enum { ASKED_AT_ONCE = 128, ADDRESS_LENGTH = 24, CHILD_STACK = 1 << 16, MOST_SECONDS = 5 };
+#include "internal.h"
 
 /* What the two need. They share all memory with the program's thread, which sleeps until one is another program and the other is gone. */
 struct asked {
@@ -108,7 +107,7 @@ static void ask(const char *command, char *const *words, char *to, size_t room, 
 
 static char *path_at_start; /* with NTWIN_WHY, PATH as it was before main: later another thread may change it */
 
-static void keep_path(void)
+NTW_INTERNAL void keep_path(void)
 {
     const char *path = secure_getenv("PATH");
     path_at_start = path != NULL ? strdup(path) : NULL;
@@ -116,7 +115,7 @@ static void keep_path(void)
 
 /* Finds a program with one of these names in PATH. (Not by PATH in a program that has more rights than who began it, nor in a folder that depends on
  * where it runs.) */
-static bool find_command(char path[PATH_MAX])
+NTW_INTERNAL bool find_command(char path[PATH_MAX])
 {
     static const char *const names[] = { "addr2line", "eu-addr2line", "llvm-addr2line" };
     const char *all = noted != NULL ? path_at_start : secure_getenv("PATH");
@@ -164,7 +163,7 @@ static void ask_for_some(const char *command, const char *path, struct place *co
 }
 
 /* Asks for the lines of the places that are in what has this base, which was loaded from the file with this path. */
-static void ask_for_lines(const char *command, const char *path, uintptr_t base, struct places *places, uint64_t end)
+NTW_INTERNAL void ask_for_lines(const char *command, const char *path, uintptr_t base, struct places *places, uint64_t end)
 {
     struct place *some[ASKED_AT_ONCE];
     size_t count = 0;

@@ -23,9 +23,10 @@
  * To revoke costs a call of the system. So `patience` doubles if a favour was too short to pay for that, and else halves. The lock favours nobody if
  * the system has no such barriers, nor beside ThreadSanitizer and helgrind, which know none. If the system refuses one later, who revokes rests until
  * each store has long arrived, and nobody is favoured any longer. */
+#include "internal.h"
 
 /* Whether the process has one thread, so that what it does with the lock need not be one step. */
-static inline bool is_alone(void)
+NTW_INLINE bool is_alone(void)
 {
 #ifdef TELLS_WHETHER_ALONE
     return TELLS_WHETHER_ALONE && __libc_single_threaded;
@@ -102,7 +103,7 @@ static inline bool takes_lock(const struct seat *seat)
     return atomic_load_explicit(&seat->takes, memory_order_relaxed);
 }
 
-static inline void set_takes_lock(struct seat *seat, bool takes)
+NTW_INLINE void set_takes_lock(struct seat *seat, bool takes)
 {
     atomic_signal_fence(memory_order_seq_cst);
     atomic_store_explicit(&seat->takes, takes, memory_order_relaxed);
@@ -166,7 +167,7 @@ static bool ask_system(int command)
 }
 
 /* As the process begins, and in a child that was forked. */
-static void ask_for_barriers(void)
+NTW_INTERNAL void ask_for_barriers(void)
 {
     process.has_barriers = !is_scheduled && knows_barriers() && ask_system(MEMBARRIER_CMD_REGISTER_PRIVATE_EXPEDITED);
 }
@@ -314,7 +315,7 @@ static inline bool take_alone(void)
 }
 
 /* Takes the lock for a caller that may have no seat, or give back its seat. It is not favoured then. */
-static inline void take_lock(void)
+NTW_INLINE void take_lock(void)
 {
     if (!take_alone())
         take_in_a_step();
@@ -337,7 +338,7 @@ __attribute__((noinline)) static bool take_in_turn(struct seat *caller)
 }
 
 /* Takes the lock for the thread of this seat, which calls. False, with the last error set, where it can't (`take_in_turn`). */
-__attribute__((always_inline)) static inline bool take_lock_for(struct seat *caller)
+NTW_ALWAYS_INLINE bool take_lock_for(struct seat *caller)
 {
     return step_in(caller) || take_in_turn(caller);
 }
@@ -358,14 +359,14 @@ __attribute__((always_inline)) static inline bool let_go(void)
 }
 
 /* Gives back what `take_lock` took. */
-__attribute__((always_inline)) static inline void give_lock(void)
+NTW_ALWAYS_INLINE void give_lock(void)
 {
     if (let_go())
         wake_who_wants_lock();
 }
 
 /* Gives back what either of them took. */
-__attribute__((always_inline)) static inline void give_lock_for(struct seat *caller)
+NTW_ALWAYS_INLINE void give_lock_for(struct seat *caller)
 {
     const uint32_t inside = inside_of(caller);
     if (inside == 0) {
@@ -406,21 +407,21 @@ static bool try_lock(void)
 }
 
 /* Takes the lock, where the caller is in no call. Answers what is to be given back with it. */
-static bool take_lock_beside_calls(void)
+NTW_INTERNAL bool take_lock_beside_calls(void)
 {
     const bool refused = set_refuses_handlers(true);
     take_lock();
     return refused;
 }
 
-static void give_lock_beside_calls(bool refused)
+NTW_INTERNAL void give_lock_beside_calls(bool refused)
 {
     give_lock();
     set_refuses_handlers(refused);
 }
 
 /* The same, where it is free within a tenth of a second. Answers whether it is. */
-static bool take_lock_at_last(bool *refused)
+NTW_INTERNAL bool take_lock_at_last(bool *refused)
 {
     const struct timespec pause = { .tv_nsec = 1000000 };
     for (int i = 0; i < 100; i++) {
@@ -436,7 +437,7 @@ static bool take_lock_at_last(bool *refused)
 }
 
 /* In a child that was forked, by its only thread: whether nobody has the lock. It favours nobody from now on. */
-static bool is_free_in_child(void)
+NTW_INTERNAL bool is_free_in_child(void)
 {
     ask_for_barriers();
     if (own.seat != NULL && lock_is(FAVOURS + own.seat->number) && inside_of(own.seat) == 0)

@@ -1,28 +1,7 @@
 /* SPDX-License-Identifier: MIT OR Apache-2.0 */
 /* ---- The calls of the dispatcher, by pointers: so that they cost nothing more where nobody looks at them, and are looked at where the environment
  * asks for that (looking.c). Each is then written to the journal, and may have tied a knot. */
-
-typedef uint32_t call_by_caller(struct nt *nt, uint32_t who, struct nt_reply *reply);
-typedef uint32_t call_by_handle(struct nt *nt, uint32_t who, uint32_t handle, struct nt_reply *reply);
-
-struct calls {
-    call_by_caller *exit, *next_apc;
-    call_by_handle *create_event, *create_mutex, *create_timer; /* (by flags) */
-    call_by_handle *set_event, *reset_event, *pulse_event, *release_mutex, *cancel_timer, *close_handle;
-    uint32_t (*create_semaphore)(struct nt *nt, uint32_t who, int32_t initial, int32_t maximum, struct nt_reply *reply);
-    uint32_t (*release_semaphore)(struct nt *nt, uint32_t who, uint32_t semaphore, int32_t count, struct nt_reply *reply);
-    uint32_t (*set_timer)(struct nt *nt, uint32_t who, uint32_t timer, int64_t due, int32_t period, struct nt_reply *reply);
-    uint32_t (*set_timer_apc)(struct nt *nt, uint32_t who, uint32_t timer, int64_t due, int32_t period, uint64_t routine, uint64_t argument,
-                              struct nt_reply *reply);
-    uint32_t (*queue_apc)(struct nt *nt, uint32_t who, uint32_t thread, uint64_t routine, uint64_t argument, struct nt_reply *reply);
-    uint32_t (*duplicate)(struct nt *nt, uint32_t who, uint32_t handle, uint32_t access, struct nt_reply *reply);
-    uint32_t (*wait_objects)(struct nt *nt, uint32_t who, const uint32_t *handles, size_t count, bool all, uint32_t ms, bool alertable,
-                             struct nt_reply *reply);
-    uint32_t (*wait_object)(struct nt *nt, uint32_t who, uint32_t handle, uint32_t ms, bool alertable, struct nt_reply *reply);
-    uint32_t (*sleep)(struct nt *nt, uint32_t who, uint32_t ms, bool alertable, struct nt_reply *reply);
-    uint32_t (*swap)(struct nt *nt, uint32_t who, uint32_t signal, uint32_t object, uint32_t ms, bool alertable, struct nt_reply *reply);
-    uint32_t (*tick)(struct nt *nt, uint64_t moment);
-};
+#include "../schedule/internal.h"
 
 /* A call, or a tick, ties a knot only where it pends, closes a handle, or ends a wait. */
 static inline uint32_t looked_at(uint32_t refused, bool may_tie)
@@ -332,47 +311,13 @@ static uint32_t look_tick(struct nt *nt, uint64_t moment)
     return looked_at(refused, false);
 }
 
-static const struct calls looked_calls = {
+NTW_INTERNAL const struct calls looked_calls = {
     look_exit, look_next_apc, look_create_event, look_create_mutex, look_create_timer, look_set_event, look_reset_event, look_pulse_event,
     look_release_mutex, look_cancel_timer, look_close_handle, look_create_semaphore, look_release_semaphore, look_set_timer,
     look_set_timer_apc, look_queue_apc, look_duplicate, look_wait_objects, look_wait_object, look_sleep, look_swap, look_tick,
 };
-static struct calls made_by = {
+NTW_INTERNAL struct calls made_by = {
     nt_exit, nt_next_apc, nt_create_event, nt_create_mutex, nt_create_timer, nt_set_event, nt_reset_event, nt_pulse_event,
     nt_release_mutex, nt_cancel_timer, nt_close_handle, nt_create_semaphore, nt_release_semaphore, nt_set_timer,
     nt_set_timer_apc, nt_queue_apc, nt_duplicate, nt_wait_objects, nt_wait_object, nt_sleep, nt_swap, nt_tick,
 };
-
-/* From here on each call goes by its pointer, but in a test that hears the calls itself. */
-#ifndef nt_exit
-static inline uint32_t wait_by_pointer(struct nt *nt, uint32_t who, const uint32_t *handles, size_t count, bool all, uint32_t ms,
-                                       bool alertable, struct nt_reply *reply)
-{
-    const uint32_t nothing = 0;
-    const bool is_list = handles != NULL && count <= NT_MAXIMUM_WAIT_OBJECTS;
-    return made_by.wait_objects(nt, who, is_list ? handles : &nothing, is_list ? count : 0, all, ms, alertable, reply);
-}
-
-#define nt_exit made_by.exit
-#define nt_next_apc made_by.next_apc
-#define nt_create_event made_by.create_event
-#define nt_create_mutex made_by.create_mutex
-#define nt_create_timer made_by.create_timer
-#define nt_set_event made_by.set_event
-#define nt_reset_event made_by.reset_event
-#define nt_pulse_event made_by.pulse_event
-#define nt_release_mutex made_by.release_mutex
-#define nt_cancel_timer made_by.cancel_timer
-#define nt_close_handle made_by.close_handle
-#define nt_create_semaphore made_by.create_semaphore
-#define nt_release_semaphore made_by.release_semaphore
-#define nt_set_timer made_by.set_timer
-#define nt_set_timer_apc made_by.set_timer_apc
-#define nt_queue_apc made_by.queue_apc
-#define nt_duplicate made_by.duplicate
-#define nt_wait wait_by_pointer
-#define nt_wait_object made_by.wait_object
-#define nt_sleep made_by.sleep
-#define nt_swap made_by.swap
-#define nt_tick made_by.tick
-#endif

@@ -6,6 +6,8 @@
  * NTWIN_WHY=abort    the same, and then abort()
  * NTWIN_JOURNAL=FILE the run as a script
  * NTWIN_SCHEDULE=..  a scheduler decides who runs (schedule/asked.c), and NTWIN_WHY asks for nothing */
+#include "../win32/internal.h"
+#include "../schedule/internal.h"
 
 /* Writes why threads wait, under the lock, with places as numbers. */
 static void write_why(struct report *to, const char *none)
@@ -17,7 +19,7 @@ static void write_why(struct report *to, const char *none)
     pthread_mutex_unlock(&telling);
 }
 
-static char *text_of_knot(void)
+NTW_INTERNAL char *text_of_knot(void)
 {
     return text_written_by(write_why, NULL);
 }
@@ -36,7 +38,7 @@ static char *with_places(char *marked)
     return written_anew(write_with_places, written_anew(write_with_callers, marked));
 }
 
-static char *text_of_why(void)
+NTW_INTERNAL char *text_of_why(void)
 {
     const bool refused = take_lock_beside_calls();
     char *marked = text_written_by(write_why, NULL);
@@ -63,7 +65,7 @@ void ntwin_write_waits(FILE *to)
 }
 
 /* Writes to standard error, which may be closed. (Not through its stream: who waits may hold that.) */
-static void say(const char *text)
+NTW_INTERNAL void say(const char *text)
 {
     const int error = errno;
     struct quiet quiet;
@@ -90,7 +92,7 @@ static void say_text(char *text)
 
 static bool aborts; /* written before main */
 
-static void tell_knot(struct seat *caller, char *text)
+NTW_INTERNAL void tell_knot(struct seat *caller, char *text)
 {
     caller->tells = false;
     if (by_schedule())
@@ -155,12 +157,12 @@ static bool take_turn_at_last(void)
     return false;
 }
 
-static void rest_from_telling(void)
+NTW_INTERNAL void rest_from_telling(void)
 {
     own.has_turn = take_turn_at_last();
 }
 
-static void go_on_telling(void)
+NTW_INTERNAL void go_on_telling(void)
 {
     if (own.has_turn)
         pthread_mutex_unlock(&telling_thread.turn);
@@ -244,7 +246,7 @@ static void begin_looking(const char *why, const char *path)
 }
 
 /* In a child that was forked: its parent goes on with the journal, and the thread that takes SIGQUIT is not here. */
-static void stop_looking(void)
+NTW_INTERNAL void stop_looking(void)
 {
     journal.text = NULL;
     own.has_turn = false;

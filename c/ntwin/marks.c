@@ -1,35 +1,30 @@
 /* SPDX-License-Identifier: MIT OR Apache-2.0 */
 /* ---- Names and places in a report, which is made under the lock. A place in the program stands in it as a number between two marks until the lock
  * is given back (places.c): which file that is the loader tells, which has a lock of its own. */
-
-enum {
-    MARK = 1,          /* of the place that comes right after a call, */
-    MARK_OF_NAME = 2,  /* of where a function begins: for its name, after a space, or for nothing; */
-    MARK_OF_STACKS = 3, /* of the copies of stacks, at the text's begin, */
-    MARK_OF_STACK = 4  /* and of one of them, by its number: for who called there */
-};
+#include "../win32/internal.h"
+#include "../schedule/internal.h"
 
 /* Writes a name, without what would spoil the line. */
-static void write_name_of(struct report *to, const char *name)
+NTW_INTERNAL void write_name_of(struct report *to, const char *name)
 {
     for (; *name != 0; name++)
         add_letter(to, (unsigned char)*name < ' ' || *name == 127 ? '?' : *name);
 }
 
-static void write_wide_name(struct report *to, const WCHAR *name)
+NTW_INTERNAL void write_wide_name(struct report *to, const WCHAR *name)
 {
     for (; *name != 0; name++)
         add_letter(to, *name >= ' ' && *name < 127 ? (char)*name : '?');
 }
 
 /* Writes a place as a number between two of these marks. */
-static void write_mark(struct report *to, char mark, uintptr_t place)
+NTW_INTERNAL void write_mark(struct report *to, char mark, uintptr_t place)
 {
     add(to, "%c%zx%c", mark, (size_t)place, mark);
 }
 
 /* Writes a thread by its number and its name; where the program gave it none, by the routine that it began with. */
-static void write_thread(struct report *to, uint32_t number)
+NTW_INTERNAL void write_thread(struct report *to, uint32_t number)
 {
     const WCHAR *name = waiting.seats[number].life.description;
     add(to, "t%u", scheduled_number(number));
@@ -44,7 +39,7 @@ static void write_thread(struct report *to, uint32_t number)
 }
 
 /* The seat of the thread that runs and has this id; null where none has it. */
-static struct seat *seat_of_id(DWORD id)
+NTW_INTERNAL struct seat *seat_of_id(DWORD id)
 {
     for (uint32_t i = 0; i < waiting.seated; i++)
         if (waiting.seats[i].life.id == id && !waiting.seats[i].has_left)
@@ -52,7 +47,7 @@ static struct seat *seat_of_id(DWORD id)
     return NULL;
 }
 
-static void write_thread_of_id(struct report *to, DWORD id)
+NTW_INTERNAL void write_thread_of_id(struct report *to, DWORD id)
 {
     const struct seat *seat = seat_of_id(id);
     if (seat != NULL)
@@ -61,7 +56,7 @@ static void write_thread_of_id(struct report *to, DWORD id)
         write_id(to, id);
 }
 
-static void write_place(struct report *to, const char *before, const void *place)
+NTW_INTERNAL void write_place(struct report *to, const char *before, const void *place)
 {
     if (place == NULL)
         return;

@@ -1,20 +1,7 @@
 /* SPDX-License-Identifier: MIT OR Apache-2.0 */
 /* ---- What was done last to each object, where NTWIN_WHY asks for that: who set, reset or pulsed an event, released a semaphore, took a mutex. It is
  * noted under the lock, as the calls are looked at (looked.c), and read by a report (why.c). */
-
-enum deed { NOTHING_DONE, WAS_SET, WAS_RESET, WAS_PULSED, WAS_RELEASED, WAS_TAKEN };
-
-struct noted {
-    const void *place; /* where in the program that was called, or null */
-    uint64_t when;     /* by the coarse clock */
-    int64_t began;     /* when the thread began that called it, */
-    uint16_t thread;   /* and its number, which may be another's by now */
-    uint8_t deed;
-    bool was_awaited;  /* somebody waited for the object as it was called */
-    uint32_t ended;    /* how many waits it ended */
-    int32_t count;     /* of a release: by how many */
-    uint32_t waiters;  /* how many waits that pend name the object */
-};
+#include "internal.h"
 
 /* For what a thread's wait that pends waits, by the objects' own numbers. */
 struct awaited {
@@ -23,11 +10,11 @@ struct awaited {
     uint16_t objects[NT_MAXIMUM_WAIT_OBJECTS];
 };
 
-static struct noted *noted;     /* of each object, by its own number; null where nothing is noted. Written before main, */
+NTW_INTERNAL struct noted *noted;     /* of each object, by its own number; null where nothing is noted. Written before main, */
 static struct awaited *awaited; /* as this is: of each thread */
 
 /* Before main. Where memory is refused nothing is noted. */
-static void begin_noting(void)
+NTW_INTERNAL void begin_noting(void)
 {
     awaited = calloc(NT_MANY_THREADS, sizeof *awaited);
     noted = awaited != NULL ? calloc(NT_MAXIMUM_HANDLES, sizeof *noted) : NULL;
@@ -35,14 +22,14 @@ static void begin_noting(void)
 
 /* Notes where the program calls, for a call that may do anything to an object. (In line in that call, so that it knows where that is. It costs one
  * branch where nothing is noted.) */
-__attribute__((always_inline)) static inline void note_call(struct seat *caller)
+NTW_ALWAYS_INLINE void note_call(struct seat *caller)
 {
     if (__builtin_expect(noted != NULL, false))
         caller->calls_at = __builtin_return_address(0);
 }
 
 /* Notes the caller's registers, as its wait begins to pend. (In line in what sleeps: so that frame is there while the wait pends.) */
-__attribute__((always_inline)) static inline void note_registers(struct seat *caller)
+NTW_ALWAYS_INLINE void note_registers(struct seat *caller)
 {
 #if defined __x86_64__
     if (noted != NULL)
@@ -80,7 +67,7 @@ static uint32_t count_ended(void)
 }
 
 /* The caller has done this to what the handle names, where it was not refused. (A handler of signals may have done it by another's number.) */
-static void note_deed(uint32_t refused, uint32_t handle, enum deed deed, int32_t count)
+NTW_INTERNAL void note_deed(uint32_t refused, uint32_t handle, enum deed deed, int32_t count)
 {
     struct seat *caller = own.seat;
     if (noted == NULL || caller == NULL)
@@ -93,7 +80,7 @@ static void note_deed(uint32_t refused, uint32_t handle, enum deed deed, int32_t
 }
 
 /* The same for what SignalObjectAndWait signals, by the kind of that. (Of a mutex it is noted who takes it.) */
-static void note_signal(uint32_t refused, uint32_t handle)
+NTW_INTERNAL void note_signal(uint32_t refused, uint32_t handle)
 {
     struct nt_opened opened;
     struct nt_object object;
@@ -109,7 +96,7 @@ static void note_signal(uint32_t refused, uint32_t handle)
 }
 
 /* An object was created: nothing was done to it yet. */
-static void note_creation(uint32_t handle)
+NTW_INTERNAL void note_creation(uint32_t handle)
 {
     struct noted *it = noted != NULL ? noted_of(handle) : NULL;
     if (it != NULL)
@@ -156,7 +143,7 @@ static void note_pending(uint32_t thread)
 }
 
 /* The caller's wait for what these handles name was refused, or answered so. */
-static void note_answer(uint32_t refused, uint32_t thread, const uint32_t *handles, size_t count, bool all, const struct nt_reply *reply)
+NTW_INTERNAL void note_answer(uint32_t refused, uint32_t thread, const uint32_t *handles, size_t count, bool all, const struct nt_reply *reply)
 {
     struct nt_opened opened;
     if (noted == NULL)
@@ -187,7 +174,7 @@ static void note_end(uint32_t thread, uint32_t status)
 }
 
 /* The last call, or tick, may have ended waits. */
-static void note_ends(void)
+NTW_INTERNAL void note_ends(void)
 {
     struct nt_told told;
     for (size_t i = 0; noted != NULL && waiting.pending != 0 && nt_told(&waiting.dispatcher, i, &told) == 0; i++)

@@ -1,7 +1,9 @@
 /* SPDX-License-Identifier: MIT OR Apache-2.0 */
 /* ---- Events. */
+#include "by_pointer.h"
+#include "../win32/internal.h"
 
-static HANDLE create_event(struct given_name name, DWORD flags, DWORD access)
+NTW_INTERNAL HANDLE create_event(struct given_name name, DWORD flags, DWORD access)
 {
     return create(&(struct wanted){ .kind = KIND_EVENT, .make = nt_create_event, .flags = flags, .access = access, .place = name.place,
                                     .known_flags = CREATE_EVENT_MANUAL_RESET | CREATE_EVENT_INITIAL_SET }, name);
@@ -19,7 +21,7 @@ HANDLE CreateEventExW(LPSECURITY_ATTRIBUTES attributes, LPCWSTR name, DWORD flag
     return create_event(WIDE(name), flags, access);
 }
 
-static DWORD event_flags(BOOL manual, BOOL set)
+NTW_INTERNAL DWORD event_flags(BOOL manual, BOOL set)
 {
     return (manual ? CREATE_EVENT_MANUAL_RESET : 0) | (set ? CREATE_EVENT_INITIAL_SET : 0);
 }
@@ -80,7 +82,7 @@ BOOL PulseEvent(HANDLE event)
 
 /* ---- Semaphores. */
 
-static HANDLE create_semaphore(struct given_name name, LONG initial, LONG maximum, DWORD flags, DWORD access)
+NTW_INTERNAL HANDLE create_semaphore(struct given_name name, LONG initial, LONG maximum, DWORD flags, DWORD access)
 {
     return create(&(struct wanted){ .kind = KIND_SEMAPHORE, .initial = initial, .maximum = maximum, .flags = flags, .access = access,
                                     .place = name.place }, name);
@@ -128,7 +130,7 @@ BOOL ReleaseSemaphore(HANDLE semaphore, LONG count, LPLONG previous)
 
 /* ---- Mutexes. */
 
-static HANDLE create_mutex(struct given_name name, DWORD flags, DWORD access)
+NTW_INTERNAL HANDLE create_mutex(struct given_name name, DWORD flags, DWORD access)
 {
     return create(&(struct wanted){ .kind = KIND_MUTEX, .make = nt_create_mutex, .flags = flags, .access = access, .place = name.place,
                                     .known_flags = CREATE_MUTEX_INITIAL_OWNER }, name);
@@ -169,7 +171,7 @@ BOOL ReleaseMutex(HANDLE mutex)
 
 /* ---- Waitable timers. */
 
-static HANDLE create_timer(struct given_name name, DWORD flags, DWORD access)
+NTW_INTERNAL HANDLE create_timer(struct given_name name, DWORD flags, DWORD access)
 {
     return create(&(struct wanted){ .kind = KIND_TIMER, .make = nt_create_timer, .flags = flags, .access = access, .place = name.place,
                                     .known_flags = CREATE_WAITABLE_TIMER_MANUAL_RESET }, name);

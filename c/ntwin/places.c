@@ -1,6 +1,7 @@
 /* SPDX-License-Identifier: MIT OR Apache-2.0 */
 /* ---- Places in a report. While that is made, under the lock, each stands in it as a number between two marks; once the lock is given back they are
  * all looked up and written: in which function, file and line each is. */
+#include "internal.h"
 
 /* The mark that the text has next, or where it ends. */
 static const char *next_mark(const char *text)
@@ -34,7 +35,7 @@ static void write_callers(struct report *to, const struct stack *stack)
 }
 
 /* Writes the text with who called in the place of stacks, which are freed. */
-static void write_with_callers(struct report *to, const char *text)
+NTW_INTERNAL void write_with_callers(struct report *to, const char *text)
 {
     struct stack *stacks = NULL;
     uintptr_t number;
@@ -160,7 +161,7 @@ static void write_marked(struct report *to, const struct places *places, char ma
 }
 
 /* Writes the text with its places. */
-static void write_with_places(struct report *to, const char *text)
+NTW_INTERNAL void write_with_places(struct report *to, const char *text)
 {
     const int error = errno;
     struct places places = { NULL, 0, 0 };

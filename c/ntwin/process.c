@@ -1,5 +1,8 @@
 /* SPDX-License-Identifier: MIT OR Apache-2.0 */
 /* ---- Threads and the process. */
+#include "by_pointer.h"
+#include "../win32/internal.h"
+#include "../schedule/internal.h"
 
 /* The id of the thread of CreateThread that has this seat. */
 static DWORD id_of(const struct seat *seat)
@@ -123,7 +126,6 @@ HANDLE CreateThread(LPSECURITY_ATTRIBUTES attributes, SIZE_T stack, LPTHREAD_STA
 }
 
 /* Returns where the caller runs on the thread's own stack; else it exits there (win32/fibers.c). */
-static void exit_by_own_stack(DWORD code);
 
 /* As on Windows no destructor is called on the way, and no memory is needed, where CreateThread made the thread. */
 void ExitThread(DWORD code)

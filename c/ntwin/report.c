@@ -1,14 +1,9 @@
 /* SPDX-License-Identifier: MIT OR Apache-2.0 */
 /* ---- A text that is made under a lock: in memory of its own, since a stream has locks that who waits for that one may hold. */
-
-struct report {
-    char *letters;       /* they end with a zero; null where there are none */
-    size_t length, room;
-    bool failed;         /* memory was refused */
-};
+#include "internal.h"
 
 /* Adds what the format makes of the rest, as printf does. */
-__attribute__((format(printf, 2, 3))) static void add(struct report *to, const char *format, ...)
+__attribute__((format(printf, 2, 3))) NTW_INTERNAL void add(struct report *to, const char *format, ...)
 {
     va_list list;
     for (int round = 0; round < 2 && !to->failed; round++) {
@@ -29,18 +24,18 @@ __attribute__((format(printf, 2, 3))) static void add(struct report *to, const c
     }
 }
 
-static void add_text(struct report *to, const char *text)
+NTW_INTERNAL void add_text(struct report *to, const char *text)
 {
     add(to, "%s", text);
 }
 
-static void add_letter(struct report *to, char letter)
+NTW_INTERNAL void add_letter(struct report *to, char letter)
 {
     add(to, "%c", letter);
 }
 
 /* What that function writes, as a text; null where memory is refused. Who asks for it frees it. */
-static char *text_written_by(void (*write)(struct report *to, const char *from), const char *from)
+NTW_INTERNAL char *text_written_by(void (*write)(struct report *to, const char *from), const char *from)
 {
     struct report it = { NULL, 0, 0, false };
     write(&it, from);

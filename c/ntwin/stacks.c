@@ -4,17 +4,7 @@
  * tables that compilers write for exceptions (.eh_frame). So programs need no frame pointers. The copy may be of a thread that has left its wait by
  * a way of its own (a canceled one): so each address is looked for in the copy alone, and unless the walk comes to where the wait was called, none is
  * named. On x86-64; elsewhere no caller is. */
-
-enum { STACK_COPIED = 8192, STACKS_AT_MOST = 256, CALLERS_AT_MOST = 3, FRAMES_AT_MOST = 16, REGISTERS = 17, AT_RBP = 6, AT_RSP = 7, AT_RETURN = 16 };
-
-/* A thread's stack where its wait was called, from its stack pointer on. */
-struct stack {
-    struct registers registers;
-    const void *waits_at;
-    LPTHREAD_START_ROUTINE start; /* with which the thread began; or null */
-    size_t count;                 /* of bytes that were copied */
-    unsigned char bytes[STACK_COPIED];
-};
+#include "../schedule/internal.h"
 
 /* Copies the stack that begins here, as much of it as is there. (By the system, since it may be gone.) */
 static size_t copy_stack(uintptr_t begin, unsigned char *to, size_t room)
@@ -33,7 +23,7 @@ static size_t copy_stack(uintptr_t begin, unsigned char *to, size_t room)
 }
 
 /* Copies what is on the stack of this thread, whose wait pends, under the lock. */
-static void take_stack(const struct seat *seat, struct stack *it)
+NTW_INTERNAL void take_stack(const struct seat *seat, struct stack *it)
 {
     it->registers = seat->registers;
     it->waits_at = seat->waits_at;
@@ -313,7 +303,7 @@ static int walk_in(struct dl_phdr_info *info, size_t size, void *at)
 
 /* Walks the stack. Answers how many callers there are of the function that waits, the innermost first: none unless the walk comes to that. (It ends
  * where the thread begins, or the system calls.) */
-static size_t find_callers(const struct stack *stack, uintptr_t callers[CALLERS_AT_MOST])
+NTW_INTERNAL size_t find_callers(const struct stack *stack, uintptr_t callers[CALLERS_AT_MOST])
 {
     const uintptr_t *saved = stack->registers.saved;
     struct frame frame = { .stack = stack, .place = stack->registers.place, .has_caller = stack->registers.place != 0,

@@ -2,42 +2,12 @@
 /* ---- Places in the program, and the functions that they are in: by the symbol table of the file that they were loaded from, and by what the loader
  * knows. That is read as a report is written, without the lock. The file may be another one by then, or broken: of what it says nothing is taken for
  * granted, and it is read and not mapped, since whoever cuts a mapped file ends its readers. */
-
-enum { LONGEST_SYMBOL = 128, LONGEST_FILE_AND_LINE = 128, LONGEST_FILE = 256, HEADERS_AT_MOST = 64, NOTES_AT_MOST = 1024, SYMBOLS_AT_ONCE = 128 };
-
-/* A place in the program. */
-struct place {
-    uintptr_t address;
-    bool is_loaded;      /* it is in a file that was loaded, */
-    uintptr_t base;      /* from which its addresses count, */
-    char file[LONGEST_FILE]; /* and which is called so */
-    uint64_t symbol;     /* where in the table of names its function's stands, while that is looked for, */
-    uintptr_t begin;     /* and where the function begins, from the same base; 0 where it is not known */
-    char function[LONGEST_SYMBOL];
-    char line[LONGEST_FILE_AND_LINE]; /* file and line (lines.c), or empty */
-};
-
-/* All places of a report, by their addresses. */
-struct places {
-    struct place *of;
-    size_t count, room;
-};
+#include "internal.h"
 
 /* A file that is open, of which nothing is known. */
 struct image {
     int file;
     uint64_t size;
-};
-
-/* What was loaded from a file, as the loader has it. (It is copied while the loader's lock is held: it may be unloaded after that.) */
-struct loaded {
-    uintptr_t address;    /* a place in it, by which it is found */
-    uintptr_t base;
-    char name[PATH_MAX];  /* empty for the program itself */
-    size_t count;
-    ElfW(Phdr) headers[HEADERS_AT_MOST];
-    size_t notes;         /* the bytes of the notes in it, one after the other */
-    char note[NOTES_AT_MOST];
 };
 
 /* Whether this is a note that is in memory, and there is room for it beside others with this sum of bytes. */
@@ -67,7 +37,7 @@ static void copy_loaded(struct loaded *it, const struct dl_phdr_info *info)
 }
 
 /* Whether this place is in what was loaded so. */
-static bool is_in(const struct dl_phdr_info *info, uintptr_t address)
+NTW_INTERNAL bool is_in(const struct dl_phdr_info *info, uintptr_t address)
 {
     for (int i = 0; i < info->dlpi_phnum; i++)
         if (info->dlpi_phdr[i].p_type == PT_LOAD && address - info->dlpi_addr - info->dlpi_phdr[i].p_vaddr < info->dlpi_phdr[i].p_memsz)
@@ -75,7 +45,7 @@ static bool is_in(const struct dl_phdr_info *info, uintptr_t address)
     return false;
 }
 
-static int find_loaded(struct dl_phdr_info *info, size_t size, void *at)
+NTW_INTERNAL int find_loaded(struct dl_phdr_info *info, size_t size, void *at)
 {
     struct loaded *it = at;
     (void)size;
@@ -85,7 +55,7 @@ static int find_loaded(struct dl_phdr_info *info, size_t size, void *at)
     return 1;
 }
 
-static int find_file(struct dl_phdr_info *info, size_t size, void *at)
+NTW_INTERNAL int find_file(struct dl_phdr_info *info, size_t size, void *at)
 {
     struct place *place = at;
     (void)size;
@@ -152,7 +122,7 @@ static bool is_of_file(const struct image *image, const struct loaded *loaded, E
 /* ---- The table of symbols. */
 
 /* The first of the places, which are sorted, that is not before this address. */
-static size_t first_place_from(const struct places *places, uintptr_t address)
+NTW_INTERNAL size_t first_place_from(const struct places *places, uintptr_t address)
 {
     size_t from = 0, to = places->count;
     while (from < to) {
@@ -222,7 +192,7 @@ static void read_sections(const struct image *image, uintptr_t base, const ElfW(
 }
 
 /* Gives the places in this their functions, by the file with this path. Answers whether it was loaded from that. */
-static bool read_functions(const struct loaded *loaded, const char *path, struct places *places)
+NTW_INTERNAL bool read_functions(const struct loaded *loaded, const char *path, struct places *places)
 {
     struct stat it;
     ElfW(Ehdr) head;
@@ -238,7 +208,7 @@ static bool read_functions(const struct loaded *loaded, const char *path, struct
 }
 
 /* Gives the places in this, which have none, the functions that the loader knows: those that other files may call. (It stays loaded meanwhile.) */
-static void ask_loader(const struct loaded *loaded, struct places *places)
+NTW_INTERNAL void ask_loader(const struct loaded *loaded, struct places *places)
 {
     Dl_info info;
     void *pin = dlopen(loaded->name[0] != 0 ? loaded->name : NULL, RTLD_LAZY | RTLD_NOLOAD);

@@ -1,8 +1,11 @@
 /* SPDX-License-Identifier: MIT OR Apache-2.0 */
 /* ---- Threads come and go. */
+#include "by_pointer.h"
+#include "../win32/internal.h"
+#include "../schedule/internal.h"
 
 /* The number names this thread. */
-static void name_thread(uint32_t number, const struct seat *seat)
+NTW_INTERNAL void name_thread(uint32_t number, const struct seat *seat)
 {
     waiting.kinds[number] = KIND_THREAD;
     waiting.threads[number] = (uint16_t)seat->number;
@@ -19,7 +22,7 @@ static void add_spare(struct seat *seat, uint32_t handle)
 }
 
 /* Threads begin, under the lock, in the places of those that have left and that no handle names any longer. What the last call reported was noted. */
-static void renew_seats(void)
+NTW_INTERNAL void renew_seats(void)
 {
     struct nt_begun begun;
     while (waiting.ended > 0 && nt_begin(&waiting.dispatcher, &begun) == 0) {
@@ -89,7 +92,7 @@ static void make_place(void)
 }
 
 /* Takes a seat, under the lock; null where none is left. */
-static struct seat *take_seat(void)
+NTW_INTERNAL struct seat *take_seat(void)
 {
     if (waiting.spare == NULL && waiting.seated == waiting.places)
         make_place();
@@ -109,7 +112,7 @@ static struct seat *take_seat(void)
 }
 
 /* Gives a seat back whose thread never ran, under the lock. No handle of the program names it any longer. */
-static void give_seat(struct seat *seat)
+NTW_INTERNAL void give_seat(struct seat *seat)
 {
     check_unnamed(seat);
     waiting.alive--;
@@ -134,7 +137,7 @@ static void end_seat(struct seat *seat)
 /* The thread ends, for the dispatcher: its mutexes are abandoned, and who waits for it is granted; those are woken before the lock is given
  * back, since the seat may be another thread's then. One that was canceled in the middle of a wait can't end, and a watcher may have to look
  * at the time in its place. */
-static void leave(struct seat *seat)
+NTW_INTERNAL void leave(struct seat *seat)
 {
     may_switch_before_call();
     set_takes_lock(seat, true);
@@ -163,10 +166,7 @@ static void leave(struct seat *seat)
     unlock_and_wake(seat);
 }
 
-/* For each round of the destructors that a thread runs as it ends, a value of its key. In the last but one it ends for the dispatcher, so
- * that its other destructors may still call, and have run when its handle is signaled. (The last one is the sanitizers'.) */
-enum { LEAVING_ROUNDS = PTHREAD_DESTRUCTOR_ITERATIONS - 1 };
-static char rounds[LEAVING_ROUNDS];
+NTW_INTERNAL char rounds[LEAVING_ROUNDS];
 
 /* A canceled thread's frames are gone, and what AddressSanitizer noted of them is not: it would find fault with the frames that come in
  * their place. This takes the notes away. */
@@ -192,8 +192,6 @@ static void leave_last(void *round)
     if (own.seat != NULL && (next == rounds + LEAVING_ROUNDS || pthread_setspecific(process.leaving, next) != 0))
         leave(own.seat);
 }
-
-static void forget_other_threads(DWORD caller);
 
 /* A child is forked, and this is its only thread. If others had seats or were in a call, none of them is here to end what it began: the
  * child then no longer has a seat, and gets none. */
@@ -311,14 +309,14 @@ __attribute__((noinline, cold)) static struct seat *join_first(void)
 }
 
 /* The caller's seat, which it takes at its first call. Null, with the last error set, where it can't have one. */
-static inline struct seat *join(void)
+NTW_INLINE struct seat *join(void)
 {
     struct seat *seat = own.seat;
     return seat != NULL ? seat : join_first();
 }
 
 /* Joins the threads of CreateThread that are gone. It waits for none: who has left may still run destructors. False as `take_lock_for` has it. */
-static bool join_those_who_are_gone(struct seat *caller)
+NTW_INTERNAL bool join_those_who_are_gone(struct seat *caller)
 {
     if (!take_lock_for(caller))
         return false;

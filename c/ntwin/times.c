@@ -1,4 +1,6 @@
 /* SPDX-License-Identifier: MIT OR Apache-2.0 */
+#include "../schedule/internal.h"
+
 /* ---- Errors. */
 
 static DWORD error_of(uint32_t refused)
@@ -14,7 +16,7 @@ static DWORD error_of(uint32_t refused)
 }
 
 /* Sets the last error, and answers FALSE. */
-__attribute__((noinline, cold)) static BOOL fail(uint32_t refused)
+__attribute__((noinline, cold)) NTW_INTERNAL BOOL fail(uint32_t refused)
 {
     own.last_error = error_of(refused);
     return FALSE;
@@ -33,18 +35,18 @@ void SetLastError(DWORD error)
 /* ---- Time. */
 
 /* From 1601 to 1970, in units of 100 ns. */
-static const int64_t unix_epoch = INT64_C(116444736000000000);
+NTW_INTERNAL const int64_t unix_epoch = INT64_C(116444736000000000);
 
 /* Where a scheduled run begins, in UTC: it depends on no clock. */
 static const int64_t start_of_2026 = INT64_C(134116992000000000);
 
-static uint64_t in_moments(const struct timespec *time)
+NTW_INTERNAL uint64_t in_moments(const struct timespec *time)
 {
     return (uint64_t)time->tv_sec * MOMENTS_PER_SECOND + (uint64_t)time->tv_nsec / NANOSECONDS_PER_MOMENT;
 }
 
 /* The monotonic clock, in units of 100 ns. */
-static uint64_t monotonic(void)
+NTW_INTERNAL uint64_t monotonic(void)
 {
     struct timespec now;
     if (by_schedule())
@@ -54,7 +56,7 @@ static uint64_t monotonic(void)
 }
 
 /* How it stood some ms ago at the most, which takes less time to learn. */
-static uint64_t coarsely(void)
+NTW_INTERNAL uint64_t coarsely(void)
 {
     struct timespec now;
     if (by_schedule())
@@ -63,7 +65,7 @@ static uint64_t coarsely(void)
     return in_moments(&now);
 }
 
-static struct timespec in_timespec(uint64_t time)
+NTW_INTERNAL struct timespec in_timespec(uint64_t time)
 {
     return (struct timespec){
         .tv_sec = (time_t)(time / MOMENTS_PER_SECOND),
@@ -72,7 +74,7 @@ static struct timespec in_timespec(uint64_t time)
 }
 
 /* UTC, in units of 100 ns since 1601. */
-static int64_t universal(void)
+NTW_INTERNAL int64_t universal(void)
 {
     struct timespec now;
     if (by_schedule())
@@ -82,13 +84,13 @@ static int64_t universal(void)
 }
 
 /* The present moment of the dispatcher. */
-static uint64_t present(void)
+NTW_INTERNAL uint64_t present(void)
 {
     return monotonic() - process.start;
 }
 
 /* The moment of a time in UTC; moment 0 where that is before the dispatcher was opened, which is past too. */
-static int64_t moment_of(int64_t time)
+NTW_INTERNAL int64_t moment_of(int64_t time)
 {
     const int64_t since = time - universal() + (int64_t)present();
     return since > 0 ? since : 0;

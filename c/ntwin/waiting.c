@@ -4,6 +4,8 @@
  * call if nobody sleeps short enough for the watchers (nt_told). While there is no watcher nobody can see that a timer is overdue, but by a
  * call, and so the next call lets time pass first. (`nt_protocols` has laws of the word on which a thread sleeps: its specs/Word.antt names the
  * functions below.) */
+#include "by_pointer.h"
+#include "../win32/internal.h"
 
 /* The next moment at which anything is due, under the lock, or NEVER. */
 static uint64_t next_due(void)
@@ -13,7 +15,7 @@ static uint64_t next_due(void)
 }
 
 /* Timers may be due later than was known, under the lock: one is no longer set. */
-static void look_for_timers(void)
+NTW_INTERNAL void look_for_timers(void)
 {
     if (waiting.timers_due == NEVER)
         return;
@@ -49,12 +51,6 @@ static void set_moment(struct seat *seat)
         waiting.kept_to = seat->moment;
 }
 
-/* What timers have to do with a wait that pends (inside.h). */
-struct dues {
-    bool watches, minds;
-    uint64_t first;
-};
-
 /* The caller's wait pends from now on, under the lock. */
 static void fall_asleep(struct seat *seat, struct dues dues)
 {
@@ -69,7 +65,7 @@ static void fall_asleep(struct seat *seat, struct dues dues)
 }
 
 /* The thread is no longer a watcher, under the lock, and minds no timer. */
-static void stop_watching(struct seat *seat)
+NTW_INTERNAL void stop_watching(struct seat *seat)
 {
     waiting.watchers -= seat->watches;
     seat->watches = false;
@@ -115,14 +111,14 @@ __attribute__((noinline)) static void note_all(struct seat *caller)
 
 /* Tells, under the lock, those whose waits the last call or tick ended, and who is called: none where none pends. No thread's wait ends
  * twice before the lock is given back. */
-static inline void note(struct seat *caller)
+NTW_INLINE void note(struct seat *caller)
 {
     if (waiting.pending != 0 && nt_told(&waiting.dispatcher, 0, &caller->told) == 0)
         note_all(caller);
 }
 
 /* Lets time pass up to now, under the lock. Answers what moment that is. */
-static uint64_t pass_time(struct seat *caller)
+NTW_INTERNAL uint64_t pass_time(struct seat *caller)
 {
     const uint64_t now = present();
     nt_tick(&waiting.dispatcher, now);
@@ -139,7 +135,7 @@ static bool is_far(uint64_t moment)
 }
 
 /* Lets time pass, under the lock, where a timer may be overdue. */
-__attribute__((noinline)) static void catch_up(struct seat *caller)
+__attribute__((noinline)) NTW_INTERNAL void catch_up(struct seat *caller)
 {
     if (!is_far(waiting.timers_due) && waiting.timers_due <= present())
         pass_time(caller);
@@ -153,14 +149,14 @@ __attribute__((noinline)) static void catch_up_unless_kept(struct seat *caller)
 }
 
 /* What is overdue happens, under the lock, where nobody watches. */
-static inline void see_to_the_overdue(struct seat *caller)
+NTW_INLINE void see_to_the_overdue(struct seat *caller)
 {
     if (waiting.timers_due != NEVER && waiting.watchers == 0)
         catch_up_unless_kept(caller);
 }
 
 /* Takes the lock. Where nobody watches, what is overdue happens first. False as `take_lock_for` has it. */
-__attribute__((always_inline)) static inline bool lock(struct seat *caller)
+NTW_ALWAYS_INLINE bool lock(struct seat *caller)
 {
     if (!take_lock_for(caller))
         return false;
@@ -170,7 +166,7 @@ __attribute__((always_inline)) static inline bool lock(struct seat *caller)
 }
 
 /* How many sleeping threads the caller's call has to wake, under the lock. From now on the caller wakes them. */
-static uint32_t wakes_left(void)
+NTW_INTERNAL uint32_t wakes_left(void)
 {
     const uint32_t wakes = waiting.wakes;
     waiting.wakes = 0;
@@ -178,7 +174,7 @@ static uint32_t wakes_left(void)
 }
 
 /* Wakes those whose words the caller's call has written. */
-__attribute__((noinline)) static void wake_all(const uint32_t *woken, uint32_t wakes)
+__attribute__((noinline)) NTW_INTERNAL void wake_all(const uint32_t *woken, uint32_t wakes)
 {
     for (uint32_t i = 0; i < wakes; i++) {
         TO_WAKE(word, &waiting.seats[woken[i]].word, Wakes, Wakes, woken[i]);
@@ -202,7 +198,7 @@ __attribute__((noinline)) static void unlock_and_wake_all(struct seat *caller)
 }
 
 /* Gives the lock back, and wakes those whose words the call has written. */
-__attribute__((always_inline)) static inline void unlock_and_wake(struct seat *caller)
+NTW_ALWAYS_INLINE void unlock_and_wake(struct seat *caller)
 {
     if (waiting.wakes > 0)
         unlock_and_wake_all(caller);
@@ -219,7 +215,7 @@ __attribute__((noinline)) static void note_and_unlock_all(struct seat *caller)
 }
 
 /* As `note`, and then as `unlock_and_wake`: where no wait pended before the call, one look tells that there is nobody to tell or to wake. */
-static inline void note_and_unlock(struct seat *caller)
+NTW_INLINE void note_and_unlock(struct seat *caller)
 {
     if ((waiting.pending | waiting.wakes) == 0) {
         give_lock_for(caller);
@@ -230,7 +226,7 @@ static inline void note_and_unlock(struct seat *caller)
 }
 
 /* A timer was set at this moment, under the lock, to be due at that one. */
-static void note_timer(uint64_t now, uint64_t due)
+NTW_INTERNAL void note_timer(uint64_t now, uint64_t due)
 {
     if (due <= now)
         due = next_due();
@@ -308,11 +304,8 @@ static uint64_t look_at_time(struct seat *seat)
     return moment;
 }
 
-static void rest_beside_wait(struct seat *caller);
-static void go_on_with_packet(void);
-
 /* Gives the lock back, sleeps until the caller's pending wait is granted, and answers its status. */
-__attribute__((noinline)) static DWORD sleep_until_granted(struct seat *seat, struct dues dues)
+__attribute__((noinline)) NTW_INTERNAL DWORD sleep_until_granted(struct seat *seat, struct dues dues)
 {
     fall_asleep(seat, dues);
     uint64_t moment = seat->moment;

@@ -1,5 +1,6 @@
 /* SPDX-License-Identifier: MIT OR Apache-2.0 */
 /* ---- APCs. */
+#include "by_pointer.h"
 
 DWORD QueueUserAPC(PAPCFUNC routine, HANDLE thread, ULONG_PTR argument)
 {
@@ -35,7 +36,7 @@ static bool take_apc(struct seat *seat, struct nt_reply *apc)
 }
 
 /* Runs the caller's APCs, those too that are queued meanwhile. */
-static void run_apcs(struct seat *seat)
+NTW_INTERNAL void run_apcs(struct seat *seat)
 {
     struct nt_reply apc;
     while (take_apc(seat, &apc))
@@ -64,7 +65,7 @@ __attribute__((noinline, cold)) static uint32_t number_of_process(struct seat *s
 }
 
 /* As `number_of`, under the lock, for a call that may name the process. */
-static inline uint32_t waited_number_of(struct seat *seat, HANDLE handle)
+NTW_INLINE uint32_t waited_number_of(struct seat *seat, HANDLE handle)
 {
     const uint32_t number = number_of(seat, handle);
     return number == NO_HANDLE && handle == CURRENT_PROCESS ? number_of_process(seat) : number;
@@ -240,7 +241,7 @@ DWORD WaitForSingleObject(HANDLE object, DWORD ms)
 }
 
 /* The same, but APCs that end the wait have yet to run: by `run_apcs`. */
-static DWORD wait_before_apcs(HANDLE object, DWORD ms, BOOL alertable)
+NTW_INTERNAL DWORD wait_before_apcs(HANDLE object, DWORD ms, BOOL alertable)
 {
     struct seat *seat = begin();
     if (seat == NULL)

@@ -1,5 +1,6 @@
 /* SPDX-License-Identifier: MIT OR Apache-2.0 */
 /* ---- Why threads wait, as a text. It is made under the lock. */
+#include "../win32/internal.h"
 
 /* What is known of all threads, under the lock. */
 static struct {
@@ -267,7 +268,7 @@ static void write_sleeping(struct report *to, const struct seat *seat)
         }
 }
 
-static void write_all(struct report *to)
+NTW_INTERNAL void write_all(struct report *to)
 {
     look_at_threads();
     find_handles();

@@ -1,74 +1,31 @@
 /* SPDX-License-Identifier: MIT OR Apache-2.0 */
-/* ---- What a program's ThreadSanitizer learns, where it has one (ntwin.c need not be compiled for it), or its helgrind: that what was done
- * before one thread gave the lock back, or wrote another's grant, came before what is done after. */
+#include "../schedule/internal.h"
 
-#if defined NTWIN_HELGRIND
-#include <valgrind/helgrind.h>
-#define comes_after(word) ANNOTATE_HAPPENS_AFTER(word)
-#define comes_before(word) ANNOTATE_HAPPENS_BEFORE(word)
-#define has_sanitizer() true
-#define is_told() true
-#define knows_barriers() false
-#elif defined __SANITIZE_THREAD__
-#define comes_after(word) ((void)(word))
-#define comes_before(word) ((void)(word))
-#define has_sanitizer() false
-#define is_told() false
-#define knows_barriers() false
-#else
-extern void __tsan_acquire(void *) __attribute__((weak));
-extern void __tsan_release(void *) __attribute__((weak));
+/* ---- What a program's ThreadSanitizer or scheduler learns of words (words_inl.h). */
 
-/* Not null where somebody listens: a sanitizer, or a scheduler (schedule/sleep_sets.c). (A call looks at this one word.) */
-#define TELLS_SCHEDULER
-static void (*observer)(void *word) = __tsan_acquire;
+#ifdef TELLS_SCHEDULER
+NTW_INTERNAL void (*observer)(void *word) = __tsan_acquire;
 
-static inline bool is_told(void)
-{
-    return observer != NULL;
-}
-
-__attribute__((noinline, cold)) static void tell_word_taken(_Atomic uint32_t *word)
+__attribute__((noinline, cold)) NTW_INTERNAL void tell_word_taken(_Atomic uint32_t *word)
 {
     touch_word((void *)word);
     if (__tsan_acquire != NULL)
         __tsan_acquire((void *)word);
 }
 
-__attribute__((noinline, cold)) static void tell_word_given(_Atomic uint32_t *word)
+__attribute__((noinline, cold)) NTW_INTERNAL void tell_word_given(_Atomic uint32_t *word)
 {
     touch_word((void *)word);
     if (__tsan_release != NULL)
         __tsan_release((void *)word);
 }
-
-static inline void comes_after(_Atomic uint32_t *word)
-{
-    if (is_told())
-        tell_word_taken(word);
-}
-
-static inline void comes_before(_Atomic uint32_t *word)
-{
-    if (is_told())
-        tell_word_given(word);
-}
-
-/* Whether there is one that has to learn of it. */
-static inline bool has_sanitizer(void)
-{
-    return __tsan_acquire != NULL;
-}
-
-/* Whether what looks for races, if there is one, knows a barrier that one thread makes another pass: none does. */
-#define knows_barriers() (!has_sanitizer())
 #endif
 
 /* ---- Words that threads sleep on. */
 
 /* Sleeps while the word is `seen`, to this time of the monotonic clock at the longest where one is given, among the sleepers of these bits. It may
  * return sooner. */
-static void sleep_among(_Atomic uint32_t *word, uint32_t seen, const struct timespec *until, uint32_t bits)
+NTW_INTERNAL void sleep_among(_Atomic uint32_t *word, uint32_t seen, const struct timespec *until, uint32_t bits)
 {
     if (slept_by_schedule(word, seen, until, bits))
         return;
@@ -78,25 +35,17 @@ static void sleep_among(_Atomic uint32_t *word, uint32_t seen, const struct time
 }
 
 /* The same among all. */
-static void sleep_on(_Atomic uint32_t *word, uint32_t seen, const struct timespec *until)
+NTW_INTERNAL void sleep_on(_Atomic uint32_t *word, uint32_t seen, const struct timespec *until)
 {
     sleep_among(word, seen, until, FUTEX_BITSET_MATCH_ANY);
 }
 
 /* Wakes one thread that sleeps on the word. */
-__attribute__((noinline)) static void wake_one(_Atomic uint32_t *word)
+__attribute__((noinline)) NTW_INTERNAL void wake_one(_Atomic uint32_t *word)
 {
     if (woke_by_schedule(word, 1, FUTEX_BITSET_MATCH_ANY))
         return;
     const int error = errno;
     syscall(SYS_futex, word, FUTEX_WAKE_PRIVATE, 1, NULL, NULL, 0);
     errno = error;
-}
-
-/* Between two looks at a word. */
-static inline void rest(void)
-{
-#if defined __x86_64__ || defined __i386__
-    __builtin_ia32_pause();
-#endif
 }

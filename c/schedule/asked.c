@@ -12,6 +12,8 @@
  * failure), minutes=M (no run begins later), seconds=S (that a thread may run without a step), out=FILE (the decisions of the run that fails),
  * trace=FILE (its steps), turns=FILE (who goes on, in each run: told.c), ends=FILE (how each run of a search ended, which goes on then), part=K,N (of
  * a search one part of N), progress=FILE (how far it is). */
+#include "internal.h"
+#include <execinfo.h>
 
 /* How many runs a search makes at the most where that is not said. */
 enum { MOST_EXPLORED = 100000, MOST_PARTS = 4096 };
@@ -147,7 +149,7 @@ static void read_asked(const char *asked)
 }
 
 /* Memory of zeros, which takes room as it is used. */
-static void *reserve(size_t size, int how)
+NTW_INTERNAL void *reserve(size_t size, int how)
 {
     void *memory = mmap(NULL, size, PROT_READ | PROT_WRITE, how | MAP_ANONYMOUS | MAP_NORESERVE, -1, 0);
     if (memory == MAP_FAILED)
@@ -212,7 +214,7 @@ static void open_turns(void)
 }
 
 /* Once this returns, the process is a run. */
-__attribute__((noinline, cold)) static void begin_schedule(const char *asked)
+__attribute__((noinline, cold)) NTW_INTERNAL void begin_schedule(const char *asked)
 {
     void *frames[1];
     read_asked(asked);

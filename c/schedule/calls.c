@@ -2,6 +2,7 @@
 /* ---- What a call of the dispatcher touches, noted under the lock before it is made (looked.c). Of two calls that touch nothing in common both
  * orders lead to the same state, with the same answers, and with the same waits ended by each. An object stands for its state, its queue, and the
  * handles that name it; the word of a seat for the wait of its thread. */
+#include "internal.h"
 
 enum { MOST_MUTEXES = 64, NO_OBJECT = NT_MAXIMUM_HANDLES };
 
@@ -20,13 +21,13 @@ static void note_mutex(uint32_t number)
         named_mutexes.numbers[named_mutexes.count - 1] = number;
 }
 
-static void touch_object(uint32_t number)
+NTW_INTERNAL void touch_object(uint32_t number)
 {
     touch(&waiting.called[number], true);
 }
 
 /* Which numbers are free: of handles, objects and threads. */
-static void touch_numbers(void)
+NTW_INTERNAL void touch_numbers(void)
 {
     touch(&waiting.spare, true);
 }
@@ -92,7 +93,7 @@ static void touch_served(uint32_t object)
 /* ---- By kinds of calls. */
 
 /* A call that changes only what this handle names. */
-static void touch_by_handle(uint32_t handle)
+NTW_INTERNAL void touch_by_handle(uint32_t handle)
 {
     if (!notes_touches)
         return;
@@ -101,7 +102,7 @@ static void touch_by_handle(uint32_t handle)
 }
 
 /* One that may signal it. */
-static void touch_by_signal(uint32_t handle)
+NTW_INTERNAL void touch_by_signal(uint32_t handle)
 {
     if (!notes_touches)
         return;
@@ -112,7 +113,7 @@ static void touch_by_signal(uint32_t handle)
 }
 
 /* One that gives or takes a handle. */
-static void touch_by_creation(void)
+NTW_INTERNAL void touch_by_creation(void)
 {
     if (!notes_touches)
         return;
@@ -121,7 +122,7 @@ static void touch_by_creation(void)
 }
 
 /* A wait of this thread for what these handles name. */
-static void touch_by_wait(uint32_t who, const uint32_t *handles, size_t count, bool alertable)
+NTW_INTERNAL void touch_by_wait(uint32_t who, const uint32_t *handles, size_t count, bool alertable)
 {
     if (!notes_touches)
         return;
@@ -133,7 +134,7 @@ static void touch_by_wait(uint32_t who, const uint32_t *handles, size_t count, b
 }
 
 /* An APC for the thread that this handle names, whose wait it may end. (Thread t has the number t among the objects.) */
-static void touch_by_apc(uint32_t handle)
+NTW_INTERNAL void touch_by_apc(uint32_t handle)
 {
     struct nt_pending_wait wait;
     if (!notes_touches)
@@ -148,7 +149,7 @@ static void touch_by_apc(uint32_t handle)
 }
 
 /* The thread ends, which signals it and the mutexes that it owns. */
-static void touch_by_exit(uint32_t who)
+NTW_INTERNAL void touch_by_exit(uint32_t who)
 {
     struct nt_object object;
     if (!notes_touches)
@@ -164,7 +165,7 @@ static void touch_by_exit(uint32_t who)
 }
 
 /* Time passes: that touches nothing where nothing is due. */
-static void touch_by_tick(uint64_t moment)
+NTW_INTERNAL void touch_by_tick(uint64_t moment)
 {
     uint64_t due;
     if (notes_touches && nt_due(&waiting.dispatcher, moment, &due) == 0)

@@ -1,11 +1,12 @@
 /* SPDX-License-Identifier: MIT OR Apache-2.0 */
 /* ---- Files of decisions: a line for each, as `t1 12 t2`. At its point 12, t1 has t2 go on (or `clock`: the next deadline come). What a file does
  * not say is as usual. */
+#include "internal.h"
 
 static const char first_line[] = "; ntwin-schedule 1";
 static const char free_time[] = " time=free", still_time[] = " time=still";
 
-static void write_decisions(const char *path)
+NTW_INTERNAL void write_decisions(const char *path)
 {
     char text[48];
     FILE *file = fopen(path, "we");
@@ -23,7 +24,7 @@ static void write_decisions(const char *path)
 }
 
 /* What was asked for can't be done. */
-__attribute__((noreturn, format(printf, 1, 2))) static void refuse(const char *format, ...)
+__attribute__((noreturn, format(printf, 1, 2))) NTW_INTERNAL void refuse(const char *format, ...)
 {
     char line[1200];
     va_list words;
@@ -49,7 +50,7 @@ static bool read_decision(const char *line, struct decision *it)
     return true;
 }
 
-static void read_decisions(const char *path)
+NTW_INTERNAL void read_decisions(const char *path)
 {
     char line[256];
     FILE *file = fopen(path, "re");

@@ -1,6 +1,8 @@
 /* SPDX-License-Identifier: MIT OR Apache-2.0 */
 /* ---- A run has failed. Its decisions are left out, by halves, quarters, .. and one by one, as long as it fails in the same way; the shortest run is
  * made once again, and reported. */
+#include "../win32/internal.h"
+#include "internal.h"
 
 enum { MOST_TRIES = 400, MOST_TOLD = 40, MOST_TRACED = 1000 };
 
@@ -77,7 +79,7 @@ static void write_how(int to, uint32_t verdict, int status)
 }
 
 /* How the last run ended, in a line after a `;`, and what it wrote. */
-static void write_end(int to)
+NTW_INTERNAL void write_end(int to)
 {
     dprintf(to, "; ");
     write_how(to, schedule.shared->verdict, maker.status);
@@ -104,7 +106,7 @@ static void tell_decisions(void)
 }
 
 /* Opens the file of steps, where one was asked for. */
-static void begin_trace(void)
+NTW_INTERNAL void begin_trace(void)
 {
     schedule.trace_from = schedule.shared->steps > MOST_TRACED ? schedule.shared->steps - MOST_TRACED : 0;
     if (schedule.traced[0] != 0)
@@ -112,7 +114,7 @@ static void begin_trace(void)
 }
 
 /* The run of this name, which is this one of all, has failed. */
-__attribute__((noreturn)) static void tell_failure(const char *name, uint64_t number, uint64_t began)
+__attribute__((noreturn)) NTW_INTERNAL void tell_failure(const char *name, uint64_t number, uint64_t began)
 {
     const struct failure failure = { schedule.shared->verdict, schedule.shared->made_count, schedule.shared->preemptions, maker.status };
     const double seconds = seconds_since(began);

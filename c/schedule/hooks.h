@@ -4,6 +4,8 @@
 #ifndef NTWIN_SCHEDULE_HOOKS_H
 #define NTWIN_SCHEDULE_HOOKS_H
 
+#include "../ntwin/inside.h"
+
 /* Why a thread comes to a point: it calls, lets others go first, sleeps, or has ended. */
 enum point { AT_CALL, AT_YIELD, AT_SLEEP, AT_END };
 
@@ -33,31 +35,31 @@ enum { is_scheduled = false, notes_touches = false };
 #define leave_schedule() ((void)0)
 #define leave_turns() ((void)0)
 #else
-static bool is_scheduled;  /* written before main, and in a child that the program forks */
-static bool notes_touches; /* so is this: what each step touches is noted, since two that touch nothing in common may change places (sleep_sets.c) */
+NTW_VARIABLE bool is_scheduled;  /* written before main, and in a child that the program forks */
+NTW_VARIABLE bool notes_touches; /* so is this: what each step touches is noted, since two that touch nothing in common may change places (sleep_sets.c) */
 
-static void touch(const volatile void *what, bool writes);
-static void touch_all(void);
-__attribute__((unused)) static void touch_word(void *word); /* (A build for one sanitizer calls it nowhere.) */
-static void begin_touching(void);
-static void come_to(enum point point);
-static void come_to_object(const volatile void *object);
-static void come_to_seen(const volatile void *object);
-static void come_to_dispatcher(void);
-static void come_to_clock(void);
-static void come_in(void);
-static void sleep_scheduled(const _Atomic uint32_t *word, uint32_t seen, const struct timespec *until, uint32_t bits);
-static int wake_scheduled(const void *word, int count, uint32_t bits);
-static uint64_t scheduled_time(void);
-static void schedule_thread(const struct seat *seat);
-static void unschedule_thread(const struct seat *seat);
-static void begin_scheduled(const struct seat *seat);
-static void skip_points(uint32_t count);
-static void end_with_knot(char *text);
-static uint32_t scheduled_number(uint32_t seat);
-static void begin_schedule(const char *asked);
-static void leave_schedule(void);
-static void leave_turns(void);
+NTW_INTERNAL void touch(const volatile void *what, bool writes);
+NTW_INTERNAL void touch_all(void);
+__attribute__((unused)) NTW_INTERNAL void touch_word(void *word); /* (A build for one sanitizer calls it nowhere.) */
+NTW_INTERNAL void begin_touching(void);
+NTW_INTERNAL void come_to(enum point point);
+NTW_INTERNAL void come_to_object(const volatile void *object);
+NTW_INTERNAL void come_to_seen(const volatile void *object);
+NTW_INTERNAL void come_to_dispatcher(void);
+NTW_INTERNAL void come_to_clock(void);
+NTW_INTERNAL void come_in(void);
+NTW_INTERNAL void sleep_scheduled(const _Atomic uint32_t *word, uint32_t seen, const struct timespec *until, uint32_t bits);
+NTW_INTERNAL int wake_scheduled(const void *word, int count, uint32_t bits);
+NTW_INTERNAL uint64_t scheduled_time(void);
+NTW_INTERNAL void schedule_thread(const struct seat *seat);
+NTW_INTERNAL void unschedule_thread(const struct seat *seat);
+NTW_INTERNAL void begin_scheduled(const struct seat *seat);
+NTW_INTERNAL void skip_points(uint32_t count);
+NTW_INTERNAL void end_with_knot(char *text);
+NTW_INTERNAL uint32_t scheduled_number(uint32_t seat);
+NTW_INTERNAL void begin_schedule(const char *asked);
+NTW_INTERNAL void leave_schedule(void);
+NTW_INTERNAL void leave_turns(void);
 #endif
 
 static inline bool by_schedule(void)

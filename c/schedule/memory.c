@@ -2,6 +2,7 @@
 /* ---- Points at memory, where the program was compiled for them (kit/points.c), and races: two accesses of one place by two threads, one of them a
  * write and not both atomic, that no call orders. What orders accesses is followed by vector clocks: each thread counts what it gives others, and
  * has of each other thread the count up to which that thread's accesses come before its own. */
+#include "posix.h"
 
 enum { MOST_RACERS = 64, CELLS = 1 << 16, ORDERS = 1 << 13, READERS = 4, CELL = 8, ROOM_IN_TABLE = 8 };
 
@@ -174,7 +175,7 @@ static void touch_memory(const volatile void *from, size_t size, unsigned how, c
 }
 
 /* Whether what orders accesses matters. */
-static bool follows_races(void)
+NTW_INTERNAL bool follows_races(void)
 {
     return memory.cells != NULL && !schedule.passes_races;
 }
@@ -191,14 +192,14 @@ static void forget_memory(uintptr_t from, size_t size)
 
 extern size_t malloc_usable_size(void *block); /* (As malloc.h has it, which a test can't include that stands in for malloc.) */
 
-static void hooked_free(void *block)
+NTW_INTERNAL void hooked_free(void *block)
 {
     if (block != NULL && memory.cells != NULL && me != NULL && !is_apart())
         forget_memory((uintptr_t)block / CELL * CELL, malloc_usable_size(block) + CELL);
     (real.free)(block);
 }
 
-static void *hooked_realloc(void *block, size_t size)
+NTW_INTERNAL void *hooked_realloc(void *block, size_t size)
 {
     if (block != NULL && memory.cells != NULL && me != NULL && !is_apart())
         forget_memory((uintptr_t)block / CELL * CELL, malloc_usable_size(block) + CELL);
@@ -206,7 +207,7 @@ static void *hooked_realloc(void *block, size_t size)
 }
 
 /* The caller begins as this thread: after what its maker did, and nothing is known of its stack, which another thread may have had. */
-static void begin_in_memory(const struct scheduled *it)
+NTW_INTERNAL void begin_in_memory(const struct scheduled *it)
 {
     pthread_attr_t attributes;
     void *start;
@@ -221,9 +222,7 @@ static void begin_in_memory(const struct scheduled *it)
     pthread_attr_destroy(&attributes);
 }
 
-static void *reserve(size_t size, int how);
-
-static void begin_memory(void)
+NTW_INTERNAL void begin_memory(void)
 {
     if (!has_points())
         return;

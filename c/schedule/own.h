@@ -4,9 +4,11 @@
 #ifndef NTWIN_SCHEDULE_OWN_H
 #define NTWIN_SCHEDULE_OWN_H
 
+#include "../ntwin/inside.h"
+
 #if !defined STRANDS_H && !defined HAS_NO_SCHEDULER
 /* How many the caller is in. (The compiler takes it that no call of the system comes back to here.) */
-static _Thread_local volatile uint32_t own_calls __attribute__((tls_model("initial-exec")));
+NTW_VARIABLE _Thread_local volatile uint32_t own_calls __attribute__((tls_model("initial-exec")));
 
 #define AS_OWN(call) \
     (__extension__({ \

@@ -1,16 +1,12 @@
 /* SPDX-License-Identifier: MIT OR Apache-2.0 */
 /* ---- What the library asks of the scheduler (hooks.h). */
+#include "internal.h"
+#include <execinfo.h>
 
 /* ---- Steps, written where that was asked for: the number of the step, the time, the thread, which of its points that is, why it came there, and who
  * goes on; then where in the program it was called, and with `@` in which library, the innermost first. */
 
-/* A place, and the file it is in. */
-struct module {
-    uintptr_t place, offset;
-    const char *name;
-};
-
-static int find_module(struct dl_phdr_info *info, size_t size, void *at)
+NTW_INTERNAL int find_module(struct dl_phdr_info *info, size_t size, void *at)
 {
     struct module *module = at;
     (void)size;
@@ -50,12 +46,6 @@ __attribute__((noinline)) static void write_step(enum point point, uint32_t chos
 }
 
 /* ---- The baton goes on. */
-
-static char *text_of_waits(void);
-static bool awaits_outside(void);
-static bool has_points(void);
-static void begin_in_memory(const struct scheduled *it);
-static void tell_before(const void *object);
 
 /* The next deadline comes: the time is no less than that. */
 static void jump(uint64_t deadline)
@@ -103,7 +93,7 @@ static struct scheduled *choose(enum point point)
     }
 }
 
-static void hand_on(enum point point)
+NTW_INTERNAL void hand_on(enum point point)
 {
     struct scheduled *mine = me;
     mine->is_choosing = true;
@@ -119,12 +109,12 @@ static void hand_on(enum point point)
 /* ---- Calls. */
 
 /* Whether what the caller does is none of the scheduler's: it has ended, or is a handler of signals that has interrupted a point of its thread. */
-static bool is_apart(void)
+NTW_INTERNAL bool is_apart(void)
 {
     return is_beyond || (me != NULL && me->is_choosing);
 }
 
-__attribute__((noinline, cold)) static void come_in(void)
+__attribute__((noinline, cold)) NTW_INTERNAL void come_in(void)
 {
     const int error = errno;
     if (!is_apart() && me == NULL)
@@ -168,29 +158,29 @@ static bool come_for(enum point point, const volatile void *object, bool touches
     return true;
 }
 
-__attribute__((noinline, cold)) static void come_to(enum point point)
+__attribute__((noinline, cold)) NTW_INTERNAL void come_to(enum point point)
 {
     come_for(point, NULL, point == AT_CALL);
 }
 
-__attribute__((noinline, cold)) static void come_to_object(const volatile void *object)
+__attribute__((noinline, cold)) NTW_INTERNAL void come_to_object(const volatile void *object)
 {
     come_for(AT_CALL, object, false);
 }
 
-__attribute__((noinline, cold)) static void come_to_seen(const volatile void *object)
+__attribute__((noinline, cold)) NTW_INTERNAL void come_to_seen(const volatile void *object)
 {
     touch(object, true);
     come_for(AT_CALL, object, false);
 }
 
-__attribute__((noinline, cold)) static void come_to_dispatcher(void)
+__attribute__((noinline, cold)) NTW_INTERNAL void come_to_dispatcher(void)
 {
     if (come_for(AT_CALL, NULL, false))
         schedule.is_unsaid = true;
 }
 
-__attribute__((noinline, cold)) static void come_to_clock(void)
+__attribute__((noinline, cold)) NTW_INTERNAL void come_to_clock(void)
 {
     const uint32_t idles = me != NULL ? me->idles : 0;
     come_to(AT_CALL);
@@ -201,20 +191,20 @@ __attribute__((noinline, cold)) static void come_to_clock(void)
 }
 
 /* The system's clock, in units of 100 ns. */
-static uint64_t real_moment(void)
+NTW_INTERNAL uint64_t real_moment(void)
 {
     struct timespec now;
     clock_gettime(CLOCK_MONOTONIC, &now);
     return in_moments(&now);
 }
 
-__attribute__((noinline, cold)) static uint64_t scheduled_time(void)
+__attribute__((noinline, cold)) NTW_INTERNAL uint64_t scheduled_time(void)
 {
     return schedule.ended == 0 ? schedule.now : schedule.now + (real_moment() - schedule.ended);
 }
 
 /* The process ends: the caller takes no turns any longer, and the time goes on by the system's clock. */
-static void leave_turns(void)
+NTW_INTERNAL void leave_turns(void)
 {
     if (!is_scheduled || schedule.makes)
         return;
@@ -222,7 +212,7 @@ static void leave_turns(void)
     schedule.ended = real_moment();
 }
 
-__attribute__((noinline, cold)) static void skip_points(uint32_t count)
+__attribute__((noinline, cold)) NTW_INTERNAL void skip_points(uint32_t count)
 {
     if (me != NULL && !is_apart())
         me->skips += count;
@@ -230,7 +220,7 @@ __attribute__((noinline, cold)) static void skip_points(uint32_t count)
 
 /* ---- Sleeps. */
 
-__attribute__((noinline, cold)) static void sleep_scheduled(const _Atomic uint32_t *word, uint32_t seen, const struct timespec *until, uint32_t bits)
+__attribute__((noinline, cold)) NTW_INTERNAL void sleep_scheduled(const _Atomic uint32_t *word, uint32_t seen, const struct timespec *until, uint32_t bits)
 {
     const int error = errno;
     if (is_apart()) {
@@ -257,7 +247,7 @@ __attribute__((noinline, cold)) static void sleep_scheduled(const _Atomic uint32
 
 /* Wakes those that fell asleep first. Answers how many. (A futex may be woken that nobody sleeps on now, and that is memory of something else by
  * now.) */
-__attribute__((noinline, cold)) static int wake_scheduled(const void *word, int count, uint32_t bits)
+__attribute__((noinline, cold)) NTW_INTERNAL int wake_scheduled(const void *word, int count, uint32_t bits)
 {
     int woken = 0;
     touch(word, true);
@@ -280,7 +270,7 @@ __attribute__((noinline, cold)) static int wake_scheduled(const void *word, int 
 /* ---- Threads. */
 
 /* A thread for this seat is about to be made. It can go on from now on. */
-__attribute__((noinline, cold)) static void schedule_thread(const struct seat *seat)
+__attribute__((noinline, cold)) NTW_INTERNAL void schedule_thread(const struct seat *seat)
 {
     struct scheduled *it = make_thread();
     number_thread(it);
@@ -299,13 +289,13 @@ static struct scheduled *thread_in(uint32_t seat)
 }
 
 /* It could not be made. */
-__attribute__((noinline, cold)) static void unschedule_thread(const struct seat *seat)
+__attribute__((noinline, cold)) NTW_INTERNAL void unschedule_thread(const struct seat *seat)
 {
     end_thread(thread_in(seat->number));
 }
 
 /* The caller is that thread. (To begin is its first point, and what it calls then is none.) */
-__attribute__((noinline, cold)) static void begin_scheduled(const struct seat *seat)
+__attribute__((noinline, cold)) NTW_INTERNAL void begin_scheduled(const struct seat *seat)
 {
     struct scheduled *it = thread_in(seat->number);
     it->skips = 1;
@@ -315,7 +305,7 @@ __attribute__((noinline, cold)) static void begin_scheduled(const struct seat *s
 }
 
 /* The caller ends, in the last round of its destructors: what those of the program call is scheduled, too. */
-static void end_scheduled(void *round)
+NTW_INTERNAL void end_scheduled(void *round)
 {
     char *next = (char *)round + 1;
     if (me == NULL || (next < ending_rounds + sizeof ending_rounds && pthread_setspecific(schedule.ending, next) == 0))
@@ -332,20 +322,20 @@ static void end_scheduled(void *round)
 }
 
 /* As the report numbers the thread of this seat. */
-static uint32_t scheduled_number(uint32_t seat)
+NTW_INTERNAL uint32_t scheduled_number(uint32_t seat)
 {
     const struct scheduled *it = is_scheduled ? thread_in(seat) : NULL;
     return it != NULL ? it->number : seat;
 }
 
-__attribute__((noinline, cold)) static void end_with_knot(char *text)
+__attribute__((noinline, cold)) NTW_INTERNAL void end_with_knot(char *text)
 {
     look_whether_all_fitted();
     end_run(TIES_KNOT, text);
 }
 
 /* In a child that the program forks, which has one thread: nothing is scheduled from now on, and the time goes on from where it is. */
-static void leave_schedule(void)
+NTW_INTERNAL void leave_schedule(void)
 {
     if (!is_scheduled || schedule.makes)
         return;

@@ -1,6 +1,7 @@
 /* SPDX-License-Identifier: MIT OR Apache-2.0 */
 /* ---- What comes by descriptors. Who waits for that sleeps until it has come, or its deadline has; others go on meanwhile. Where nobody can go on
  * and nothing is due, the run waits for what comes from outside (`awaits_outside`). */
+#include "posix.h"
 
 /* The descriptors that a call waits for. (So many are looked at; who asks for more waits by the system.) */
 struct polled {
@@ -8,7 +9,7 @@ struct polled {
     nfds_t count;
 };
 
-static bool has_input(const void *at)
+NTW_INTERNAL bool has_input(const void *at)
 {
     const struct polled *it = at;
     return real.poll(it->files, it->count, 0) != 0;
@@ -25,7 +26,7 @@ static void wait_for_files(const char *call, struct pollfd *files, nfds_t count,
     errno = error;
 }
 
-static int hooked_poll(struct pollfd *files, nfds_t count, int ms)
+NTW_INTERNAL int hooked_poll(struct pollfd *files, nfds_t count, int ms)
 {
     if (!comes_from_program())
         return real.poll(files, count, ms);
@@ -48,7 +49,7 @@ static nfds_t files_of(struct pollfd *files, int count, const fd_set *reads, con
     return found;
 }
 
-static int hooked_select(int count, fd_set *reads, fd_set *writes, fd_set *others, struct timeval *time)
+NTW_INTERNAL int hooked_select(int count, fd_set *reads, fd_set *writes, fd_set *others, struct timeval *time)
 {
     struct pollfd files[FD_SETSIZE];
     if (count < 0 || count > FD_SETSIZE || (time != NULL && (time->tv_sec < 0 || time->tv_usec < 0)) || !comes_from_program())
@@ -68,21 +69,21 @@ static void wait_for_input(const char *call, int file, const void *place)
         wait_for_files(call, &one, 1, NEVER, place);
 }
 
-static ssize_t hooked_read(int file, void *to, size_t room)
+NTW_INTERNAL ssize_t hooked_read(int file, void *to, size_t room)
 {
     if (comes_from_program())
         wait_for_input("read", file, __builtin_return_address(0));
     return real.read(file, to, room);
 }
 
-static ssize_t hooked_recv(int file, void *to, size_t room, int flags)
+NTW_INTERNAL ssize_t hooked_recv(int file, void *to, size_t room, int flags)
 {
     if (comes_from_program() && (flags & MSG_DONTWAIT) == 0)
         wait_for_input("recv", file, __builtin_return_address(0));
     return real.recv(file, to, room, flags);
 }
 
-static int hooked_accept(int file, __SOCKADDR_ARG address, socklen_t *length)
+NTW_INTERNAL int hooked_accept(int file, __SOCKADDR_ARG address, socklen_t *length)
 {
     if (comes_from_program())
         wait_for_input("accept", file, __builtin_return_address(0));
@@ -91,7 +92,7 @@ static int hooked_accept(int file, __SOCKADDR_ARG address, socklen_t *length)
 
 /* Nobody can go on, and nothing is due. Waits half as long as a run may be without a step, where threads wait for input: by the system's clock.
  * Answers whether one can go on. */
-static bool awaits_outside(void)
+NTW_INTERNAL bool awaits_outside(void)
 {
     const struct timespec pause = { .tv_nsec = 1000000 };
     const uint64_t began = real_moment();

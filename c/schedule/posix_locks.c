@@ -1,5 +1,6 @@
 /* SPDX-License-Identifier: MIT OR Apache-2.0 */
 /* ---- Locks, conditions, semaphores and barriers of POSIX. (As with sections, to give a lock back is no point before it.) */
+#include "posix.h"
 
 /* To try a lock, and whose it is: what a lock of each kind needs to be waited for. */
 struct taken {
@@ -46,14 +47,14 @@ static bool is_mutex_callers(const void *mutex)
 
 static const struct taken a_mutex = { "pthread_mutex_lock", attempt_mutex, is_mutex_callers };
 
-static int hooked_pthread_mutex_lock(pthread_mutex_t *mutex)
+NTW_INTERNAL int hooked_pthread_mutex_lock(pthread_mutex_t *mutex)
 {
     if (!comes_to(mutex))
         return real.pthread_mutex_lock(mutex);
     return take_by(&a_mutex, mutex, NEVER, __builtin_return_address(0));
 }
 
-static int hooked_pthread_mutex_trylock(pthread_mutex_t *mutex)
+NTW_INTERNAL int hooked_pthread_mutex_trylock(pthread_mutex_t *mutex)
 {
     const bool is_ours = comes_to(mutex);
     const int error = real.pthread_mutex_trylock(mutex);
@@ -62,14 +63,14 @@ static int hooked_pthread_mutex_trylock(pthread_mutex_t *mutex)
     return error;
 }
 
-static int hooked_pthread_mutex_timedlock(pthread_mutex_t *mutex, const struct timespec *time)
+NTW_INTERNAL int hooked_pthread_mutex_timedlock(pthread_mutex_t *mutex, const struct timespec *time)
 {
     if (!is_time(time) || !comes_to(mutex))
         return real.pthread_mutex_timedlock(mutex, time);
     return take_by(&a_mutex, mutex, moment_by(CLOCK_REALTIME, time), __builtin_return_address(0));
 }
 
-static int hooked_pthread_mutex_clocklock(pthread_mutex_t *mutex, clockid_t clock, const struct timespec *time)
+NTW_INTERNAL int hooked_pthread_mutex_clocklock(pthread_mutex_t *mutex, clockid_t clock, const struct timespec *time)
 {
     if (!is_time(time) || !is_clock_of_run(clock) || !comes_to(mutex))
         return real.pthread_mutex_clocklock(mutex, clock, time);
@@ -85,7 +86,7 @@ static int give_mutex(pthread_mutex_t *mutex)
     return error;
 }
 
-static int hooked_pthread_mutex_unlock(pthread_mutex_t *mutex)
+NTW_INTERNAL int hooked_pthread_mutex_unlock(pthread_mutex_t *mutex)
 {
     return is_in_run() ? give_mutex(mutex) : real.pthread_mutex_unlock(mutex);
 }
@@ -103,7 +104,7 @@ static int wait_for_condition(pthread_cond_t *condition, pthread_mutex_t *mutex,
     return refused != 0 ? refused : was_woken ? 0 : ETIMEDOUT;
 }
 
-static int hooked_pthread_cond_wait(pthread_cond_t *condition, pthread_mutex_t *mutex)
+NTW_INTERNAL int hooked_pthread_cond_wait(pthread_cond_t *condition, pthread_mutex_t *mutex)
 {
     if (!comes_to(condition))
         return real.pthread_cond_wait(condition, mutex);
@@ -117,21 +118,21 @@ static clockid_t clock_of(const pthread_cond_t *condition)
     return (condition->__data.__wrefs & IS_MONOTONIC) != 0 ? CLOCK_MONOTONIC : CLOCK_REALTIME;
 }
 
-static int hooked_pthread_cond_timedwait(pthread_cond_t *condition, pthread_mutex_t *mutex, const struct timespec *time)
+NTW_INTERNAL int hooked_pthread_cond_timedwait(pthread_cond_t *condition, pthread_mutex_t *mutex, const struct timespec *time)
 {
     if (!is_time(time) || !comes_to(condition))
         return real.pthread_cond_timedwait(condition, mutex, time);
     return wait_for_condition(condition, mutex, moment_by(clock_of(condition), time), __builtin_return_address(0));
 }
 
-static int hooked_pthread_cond_clockwait(pthread_cond_t *condition, pthread_mutex_t *mutex, clockid_t clock, const struct timespec *time)
+NTW_INTERNAL int hooked_pthread_cond_clockwait(pthread_cond_t *condition, pthread_mutex_t *mutex, clockid_t clock, const struct timespec *time)
 {
     if (!is_time(time) || !is_clock_of_run(clock) || !comes_to(condition))
         return real.pthread_cond_clockwait(condition, mutex, clock, time);
     return wait_for_condition(condition, mutex, moment_by(clock, time), __builtin_return_address(0));
 }
 
-static int hooked_pthread_cond_signal(pthread_cond_t *condition)
+NTW_INTERNAL int hooked_pthread_cond_signal(pthread_cond_t *condition)
 {
     if (!comes_to(condition))
         return real.pthread_cond_signal(condition);
@@ -139,7 +140,7 @@ static int hooked_pthread_cond_signal(pthread_cond_t *condition)
     return 0;
 }
 
-static int hooked_pthread_cond_broadcast(pthread_cond_t *condition)
+NTW_INTERNAL int hooked_pthread_cond_broadcast(pthread_cond_t *condition)
 {
     if (!comes_to(condition))
         return real.pthread_cond_broadcast(condition);
@@ -174,11 +175,11 @@ static const struct taken a_write = { "pthread_rwlock_wrlock", attempt_to_write,
 static const struct taken a_spin = { "pthread_spin_lock", attempt_spin, NULL };
 
 #define RWLOCK_CALLS(kind, lock_call, try_call, timed_call, clock_call) \
-    static int hooked_##lock_call(pthread_rwlock_t *lock) \
+    NTW_INTERNAL int hooked_##lock_call(pthread_rwlock_t *lock) \
     { \
         return comes_to(lock) ? take_by(&(kind), lock, NEVER, __builtin_return_address(0)) : real.lock_call(lock); \
     } \
-    static int hooked_##try_call(pthread_rwlock_t *lock) \
+    NTW_INTERNAL int hooked_##try_call(pthread_rwlock_t *lock) \
     { \
         const bool is_ours = comes_to(lock); \
         const int error = real.try_call(lock); \
@@ -186,13 +187,13 @@ static const struct taken a_spin = { "pthread_spin_lock", attempt_spin, NULL };
             tell_after(lock); \
         return error; \
     } \
-    static int hooked_##timed_call(pthread_rwlock_t *lock, const struct timespec *time) \
+    NTW_INTERNAL int hooked_##timed_call(pthread_rwlock_t *lock, const struct timespec *time) \
     { \
         if (!is_time(time) || !comes_to(lock)) \
             return real.timed_call(lock, time); \
         return take_by(&(kind), lock, moment_by(CLOCK_REALTIME, time), __builtin_return_address(0)); \
     } \
-    static int hooked_##clock_call(pthread_rwlock_t *lock, clockid_t clock, const struct timespec *time) \
+    NTW_INTERNAL int hooked_##clock_call(pthread_rwlock_t *lock, clockid_t clock, const struct timespec *time) \
     { \
         if (!is_time(time) || !is_clock_of_run(clock) || !comes_to(lock)) \
             return real.clock_call(lock, clock, time); \
@@ -202,7 +203,7 @@ static const struct taken a_spin = { "pthread_spin_lock", attempt_spin, NULL };
 RWLOCK_CALLS(a_read, pthread_rwlock_rdlock, pthread_rwlock_tryrdlock, pthread_rwlock_timedrdlock, pthread_rwlock_clockrdlock)
 RWLOCK_CALLS(a_write, pthread_rwlock_wrlock, pthread_rwlock_trywrlock, pthread_rwlock_timedwrlock, pthread_rwlock_clockwrlock)
 
-static int hooked_pthread_rwlock_unlock(pthread_rwlock_t *lock)
+NTW_INTERNAL int hooked_pthread_rwlock_unlock(pthread_rwlock_t *lock)
 {
     if (!is_in_run())
         return real.pthread_rwlock_unlock(lock);
@@ -212,14 +213,14 @@ static int hooked_pthread_rwlock_unlock(pthread_rwlock_t *lock)
     return error;
 }
 
-static int hooked_pthread_spin_lock(pthread_spinlock_t *lock)
+NTW_INTERNAL int hooked_pthread_spin_lock(pthread_spinlock_t *lock)
 {
     if (!comes_to(lock))
         return real.pthread_spin_lock(lock);
     return take_by(&a_spin, (void *)(uintptr_t)lock, NEVER, __builtin_return_address(0));
 }
 
-static int hooked_pthread_spin_trylock(pthread_spinlock_t *lock)
+NTW_INTERNAL int hooked_pthread_spin_trylock(pthread_spinlock_t *lock)
 {
     const bool is_ours = comes_to(lock);
     const int error = real.pthread_spin_trylock(lock);
@@ -228,7 +229,7 @@ static int hooked_pthread_spin_trylock(pthread_spinlock_t *lock)
     return error;
 }
 
-static int hooked_pthread_spin_unlock(pthread_spinlock_t *lock)
+NTW_INTERNAL int hooked_pthread_spin_unlock(pthread_spinlock_t *lock)
 {
     if (!is_in_run())
         return real.pthread_spin_unlock(lock);
@@ -261,12 +262,12 @@ static int wait_for_semaphore(sem_t *semaphore, uint64_t until, const void *plac
     return -1;
 }
 
-static int hooked_sem_wait(sem_t *semaphore)
+NTW_INTERNAL int hooked_sem_wait(sem_t *semaphore)
 {
     return comes_to(semaphore) ? wait_for_semaphore(semaphore, NEVER, __builtin_return_address(0)) : real.sem_wait(semaphore);
 }
 
-static int hooked_sem_trywait(sem_t *semaphore)
+NTW_INTERNAL int hooked_sem_trywait(sem_t *semaphore)
 {
     const bool is_ours = comes_to(semaphore);
     const int answer = real.sem_trywait(semaphore);
@@ -275,21 +276,21 @@ static int hooked_sem_trywait(sem_t *semaphore)
     return answer;
 }
 
-static int hooked_sem_timedwait(sem_t *semaphore, const struct timespec *time)
+NTW_INTERNAL int hooked_sem_timedwait(sem_t *semaphore, const struct timespec *time)
 {
     if (!is_time(time) || !comes_to(semaphore))
         return real.sem_timedwait(semaphore, time);
     return wait_for_semaphore(semaphore, moment_by(CLOCK_REALTIME, time), __builtin_return_address(0));
 }
 
-static int hooked_sem_clockwait(sem_t *semaphore, clockid_t clock, const struct timespec *time)
+NTW_INTERNAL int hooked_sem_clockwait(sem_t *semaphore, clockid_t clock, const struct timespec *time)
 {
     if (!is_time(time) || !is_clock_of_run(clock) || !comes_to(semaphore))
         return real.sem_clockwait(semaphore, clock, time);
     return wait_for_semaphore(semaphore, moment_by(clock, time), __builtin_return_address(0));
 }
 
-static int hooked_sem_post(sem_t *semaphore)
+NTW_INTERNAL int hooked_sem_post(sem_t *semaphore)
 {
     if (!comes_to(semaphore))
         return real.sem_post(semaphore);
@@ -325,7 +326,7 @@ static void forget_barrier(const pthread_barrier_t *at)
     free(it);
 }
 
-static int hooked_pthread_barrier_init(pthread_barrier_t *at, const pthread_barrierattr_t *attributes, unsigned count)
+NTW_INTERNAL int hooked_pthread_barrier_init(pthread_barrier_t *at, const pthread_barrierattr_t *attributes, unsigned count)
 {
     const int error = real.pthread_barrier_init(at, attributes, count);
     if (error != 0 || !is_in_run())
@@ -339,14 +340,14 @@ static int hooked_pthread_barrier_init(pthread_barrier_t *at, const pthread_barr
     return 0;
 }
 
-static int hooked_pthread_barrier_destroy(pthread_barrier_t *at)
+NTW_INTERNAL int hooked_pthread_barrier_destroy(pthread_barrier_t *at)
 {
     if (is_in_run())
         forget_barrier(at);
     return real.pthread_barrier_destroy(at);
 }
 
-static int hooked_pthread_barrier_wait(pthread_barrier_t *at)
+NTW_INTERNAL int hooked_pthread_barrier_wait(pthread_barrier_t *at)
 {
     const struct blocked blocked = { "pthread_barrier_wait", at, __builtin_return_address(0), NULL };
     struct counted_barrier *it = is_in_run() ? *find_barrier(at) : NULL;

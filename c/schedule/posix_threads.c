@@ -1,5 +1,6 @@
 /* SPDX-License-Identifier: MIT OR Apache-2.0 */
 /* ---- Threads of POSIX: they are made, and waited for. */
+#include "posix.h"
 
 /* What a thread that pthread_create makes is to run, and as whom. */
 struct beginning {
@@ -19,7 +20,7 @@ static void *run_from_beginning(void *at)
     return beginning.run(beginning.parameter);
 }
 
-static int hooked_pthread_create(pthread_t *thread, const pthread_attr_t *attributes, void *(*run)(void *), void *parameter)
+NTW_INTERNAL int hooked_pthread_create(pthread_t *thread, const pthread_attr_t *attributes, void *(*run)(void *), void *parameter)
 {
     if (!is_in_run())
         return real.pthread_create(thread, attributes, run, parameter);
@@ -74,28 +75,28 @@ static bool has_ended_by(pthread_t thread, uint64_t until, const void *place)
     return true;
 }
 
-static int hooked_pthread_join(pthread_t thread, void **value)
+NTW_INTERNAL int hooked_pthread_join(pthread_t thread, void **value)
 {
     if (comes_to_join(thread))
         has_ended_by(thread, NEVER, __builtin_return_address(0));
     return real.pthread_join(thread, value);
 }
 
-static int hooked_pthread_tryjoin_np(pthread_t thread, void **value)
+NTW_INTERNAL int hooked_pthread_tryjoin_np(pthread_t thread, void **value)
 {
     if (comes_to_join(thread))
         return has_ended_by(thread, 0, NULL) ? real.pthread_join(thread, value) : EBUSY;
     return real.pthread_tryjoin_np(thread, value);
 }
 
-static int hooked_pthread_timedjoin_np(pthread_t thread, void **value, const struct timespec *time)
+NTW_INTERNAL int hooked_pthread_timedjoin_np(pthread_t thread, void **value, const struct timespec *time)
 {
     if (!is_time(time) || !comes_to_join(thread))
         return real.pthread_timedjoin_np(thread, value, time);
     return has_ended_by(thread, moment_by(CLOCK_REALTIME, time), __builtin_return_address(0)) ? real.pthread_join(thread, value) : ETIMEDOUT;
 }
 
-static int hooked_pthread_clockjoin_np(pthread_t thread, void **value, clockid_t clock, const struct timespec *time)
+NTW_INTERNAL int hooked_pthread_clockjoin_np(pthread_t thread, void **value, clockid_t clock, const struct timespec *time)
 {
     if (!is_time(time) || !is_clock_of_run(clock) || !comes_to_join(thread))
         return real.pthread_clockjoin_np(thread, value, clock, time);
@@ -112,7 +113,7 @@ static bool nobody_is_in(const void *control)
     return ((unsigned)*(const volatile pthread_once_t *)control & bit) == 0;
 }
 
-static int hooked_pthread_once(pthread_once_t *control, void (*routine)(void))
+NTW_INTERNAL int hooked_pthread_once(pthread_once_t *control, void (*routine)(void))
 {
     const struct blocked blocked = { "pthread_once", control, __builtin_return_address(0), nobody_is_in };
     if (!comes_to(control))
@@ -127,7 +128,7 @@ static int hooked_pthread_once(pthread_once_t *control, void (*routine)(void))
 
 /* ---- Objects of C++ that the first caller makes. (What waits for another caller here sleeps on a word.) */
 
-static int hooked___cxa_guard_acquire(void *guard)
+NTW_INTERNAL int hooked___cxa_guard_acquire(void *guard)
 {
     const int makes = real.__cxa_guard_acquire(guard);
     if (is_in_run())
@@ -135,7 +136,7 @@ static int hooked___cxa_guard_acquire(void *guard)
     return makes;
 }
 
-static void hooked___cxa_guard_release(void *guard)
+NTW_INTERNAL void hooked___cxa_guard_release(void *guard)
 {
     if (is_in_run())
         tell_before(guard);
@@ -166,7 +167,7 @@ static long wait_on_word(const void *place, const long with[6])
     return -1;
 }
 
-static long hooked_syscall(long number, ...)
+NTW_INTERNAL long hooked_syscall(long number, ...)
 {
     long with[6];
     va_list rest;

@@ -1,7 +1,8 @@
 /* SPDX-License-Identifier: MIT OR Apache-2.0 */
 /* ---- Clocks and sleeps of POSIX. */
+#include "posix.h"
 
-static int hooked_clock_gettime(clockid_t clock, struct timespec *time)
+NTW_INTERNAL int hooked_clock_gettime(clockid_t clock, struct timespec *time)
 {
     if (!is_clock_of_run(clock) || !is_in_run())
         return real.clock_gettime(clock, time);
@@ -10,7 +11,7 @@ static int hooked_clock_gettime(clockid_t clock, struct timespec *time)
     return 0;
 }
 
-static int hooked_gettimeofday(struct timeval *time, void *zone)
+NTW_INTERNAL int hooked_gettimeofday(struct timeval *time, void *zone)
 {
     struct timespec now;
     if (time == NULL || !is_in_run())
@@ -20,7 +21,7 @@ static int hooked_gettimeofday(struct timeval *time, void *zone)
     return 0;
 }
 
-static time_t hooked_time(time_t *to)
+NTW_INTERNAL time_t hooked_time(time_t *to)
 {
     struct timespec now;
     if (!is_in_run())
@@ -41,7 +42,7 @@ static void sleep_to_moment(const char *call, uint64_t until)
         sleep_in(&blocked, until);
 }
 
-static int hooked_nanosleep(const struct timespec *time, struct timespec *left)
+NTW_INTERNAL int hooked_nanosleep(const struct timespec *time, struct timespec *left)
 {
     if (!is_time(time) || !comes_to(NULL))
         return real.nanosleep(time, left);
@@ -49,7 +50,7 @@ static int hooked_nanosleep(const struct timespec *time, struct timespec *left)
     return 0;
 }
 
-static int hooked_clock_nanosleep(clockid_t clock, int flags, const struct timespec *time, struct timespec *left)
+NTW_INTERNAL int hooked_clock_nanosleep(clockid_t clock, int flags, const struct timespec *time, struct timespec *left)
 {
     if (!is_time(time) || !is_clock_of_run(clock) || !comes_to(NULL))
         return real.clock_nanosleep(clock, flags, time, left);
@@ -57,7 +58,7 @@ static int hooked_clock_nanosleep(clockid_t clock, int flags, const struct times
     return 0;
 }
 
-static int hooked_usleep(useconds_t microseconds)
+NTW_INTERNAL int hooked_usleep(useconds_t microseconds)
 {
     if (!comes_to(NULL))
         return real.usleep(microseconds);
@@ -65,7 +66,7 @@ static int hooked_usleep(useconds_t microseconds)
     return 0;
 }
 
-static unsigned hooked_sleep(unsigned seconds)
+NTW_INTERNAL unsigned hooked_sleep(unsigned seconds)
 {
     if (!comes_to(NULL))
         return real.sleep(seconds);
@@ -73,7 +74,7 @@ static unsigned hooked_sleep(unsigned seconds)
     return 0;
 }
 
-static int hooked_sched_yield(void)
+NTW_INTERNAL int hooked_sched_yield(void)
 {
     if (!is_in_run())
         return real.sched_yield();

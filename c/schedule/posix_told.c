@@ -1,5 +1,6 @@
 /* SPDX-License-Identifier: MIT OR Apache-2.0 */
 /* ---- Who waits in calls of POSIX, and who holds whom. */
+#include "posix.h"
 
 /* The thread that the system has by this number; null where the scheduler knows none. */
 static const struct scheduled *thread_of_system(int id)
@@ -25,7 +26,7 @@ static const struct scheduled *holder_of(const struct scheduled *it)
     return waits_in(it, "pthread_join") ? it->blocked->object : NULL;
 }
 
-static void write_place_in(struct report *to, const void *place)
+NTW_INTERNAL void write_place_in(struct report *to, const void *place)
 {
     struct module module = { .place = (uintptr_t)place - 1 };
     if (place != NULL && dl_iterate_phdr(find_module, &module) != 0)
@@ -82,7 +83,7 @@ static void write_blocked_threads(struct report *to, const char *none)
 }
 
 /* Who waits for what, in calls of both kinds. */
-static char *text_of_waits(void)
+NTW_INTERNAL char *text_of_waits(void)
 {
     char *posix = text_written_by(write_blocked_threads, NULL), *why = process.is_open ? text_of_why() : NULL;
     char *both = NULL;

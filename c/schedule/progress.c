@@ -1,5 +1,6 @@
 /* SPDX-License-Identifier: MIT OR Apache-2.0 */
 /* ---- How far a search is: once a second a line on a terminal, or for who made this process and shows that of several (ntwin-explore). */
+#include "internal.h"
 
 enum { MOST_LETTERS = 160 };
 
@@ -10,7 +11,7 @@ static struct {
     bool is_shown;
 } progress = { .file = -1 };
 
-static void begin_progress(void)
+NTW_INTERNAL void begin_progress(void)
 {
     progress.began = real_ns();
     progress.next = progress.began + 1000000000;
@@ -19,7 +20,7 @@ static void begin_progress(void)
 }
 
 /* Tells it, where a second has passed since that was done: how many runs, the steps of the longest, and the share of all that is done. */
-static void tell_progress(uint64_t runs, uint64_t longest, double (*share)(void))
+NTW_INTERNAL void tell_progress(uint64_t runs, uint64_t longest, double (*share)(void))
 {
     char line[MOST_LETTERS];
     const uint64_t now = real_ns();
@@ -39,7 +40,7 @@ static void tell_progress(uint64_t runs, uint64_t longest, double (*share)(void)
 }
 
 /* The line makes room for what is written at the end. */
-static void end_progress(void)
+NTW_INTERNAL void end_progress(void)
 {
     if (progress.is_shown)
         (void)!write(STDERR_FILENO, "\r\033[K", 4);

@@ -1,26 +1,25 @@
 /* SPDX-License-Identifier: MIT OR Apache-2.0 */
 /* ---- Who makes runs: the process, before main, with a child for each, which goes on as the program. */
+#include "../win32/internal.h"
+#include "posix.h"
+#include <dirent.h>
+#include <sys/prctl.h>
+#include <sys/wait.h>
 
-static uint64_t real_ns(void)
+NTW_INTERNAL uint64_t real_ns(void)
 {
     struct timespec now;
     clock_gettime(CLOCK_MONOTONIC, &now);
     return (uint64_t)now.tv_sec * 1000000000 + (uint64_t)now.tv_nsec;
 }
 
-static double seconds_since(uint64_t ns)
+NTW_INTERNAL double seconds_since(uint64_t ns)
 {
     return (double)(real_ns() - ns) / 1e9;
 }
 
-static jmp_buf program; /* where a child goes on */
-static struct {
-    int output;         /* a file in memory: what the last run wrote, */
-    int status;         /* how it ended */
-    sigset_t before;    /* signals that were blocked before runs were made */
-    struct sigaction at_child;
-    pid_t id;
-} maker;
+NTW_INTERNAL jmp_buf program; /* where a child goes on */
+NTW_INTERNAL struct maker maker;
 
 /* One processor is enough for threads of which one runs at a time, and they take turns faster there. (What the program sees of processors is as
  * before.) */
@@ -37,7 +36,7 @@ static void stay_on_processor(void)
 }
 
 /* From here on the process is a run, and the caller its first thread. */
-static void begin_run(void)
+NTW_INTERNAL void begin_run(void)
 {
     stay_on_processor();
     begin_memory();
@@ -159,7 +158,7 @@ static int await_child(pid_t child)
 }
 
 /* Makes a run; the last one is shown. Answers its verdict. (In the child it returns where the program begins.) */
-static uint32_t make_run(bool is_last)
+NTW_INTERNAL uint32_t make_run(bool is_last)
 {
     struct shared_run *shared = schedule.shared;
     shared->steps = 0;
@@ -181,7 +180,7 @@ static uint32_t make_run(bool is_last)
 }
 
 /* Signals of children are asked for, and not delivered. */
-static void begin_making(void)
+NTW_INTERNAL void begin_making(void)
 {
     sigset_t ends;
     const struct sigaction usual = { .sa_handler = SIG_DFL };

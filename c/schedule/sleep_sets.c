@@ -5,9 +5,8 @@
  *
  * A step is what a thread does from one point to its next. It touches what its call says (`may_switch_at`, calls.c), what it takes, gives back,
  * sleeps on or wakes, and memory with points; else it may touch anything, as it does where it yields, looks at the time, or ends the run. */
-
-static bool is_apart(void);
-static bool follows_races(void);
+#include "../win32/internal.h"
+#include "internal.h"
 
 /* The address as it is noted, with whether it is written. */
 static uintptr_t noted_as(const volatile void *what, bool writes)
@@ -15,7 +14,7 @@ static uintptr_t noted_as(const volatile void *what, bool writes)
     return (uintptr_t)what << 1 | writes;
 }
 
-static void touch(const volatile void *what, bool writes)
+NTW_INTERNAL void touch(const volatile void *what, bool writes)
 {
     struct touched *it = &schedule.touched;
     if (!notes_touches || what == NULL || me == NULL || is_apart())
@@ -31,14 +30,14 @@ static void touch(const volatile void *what, bool writes)
         it->what[it->count++] = noted_as(what, writes);
 }
 
-static void touch_all(void)
+NTW_INTERNAL void touch_all(void)
 {
     if (notes_touches && me != NULL && !is_apart())
         schedule.touched.is_all = true;
 }
 
 /* The call of the dispatcher that the caller came to says from here on what it touches. (Where races are followed, each comes before the next.) */
-static void begin_touching(void)
+NTW_INTERNAL void begin_touching(void)
 {
     schedule.is_unsaid = false;
     if (follows_races())
@@ -46,7 +45,7 @@ static void begin_touching(void)
 }
 
 /* What the caller came to its last point for, where it goes on from there or from a sleep. */
-static void touch_own(void)
+NTW_INTERNAL void touch_own(void)
 {
     if (me->touches_all)
         touch_all();
@@ -54,14 +53,14 @@ static void touch_own(void)
 }
 
 /* This word is taken or given back (words.c). (Who sleeps for a lock is noted for reports alone.) */
-static void touch_word(void *word)
+NTW_INTERNAL void touch_word(void *word)
 {
     if (word != &sleepers.latch)
         touch(word, true);
 }
 
 /* From here on runs are left off where they may be. False where the library was built to tell a sanitizer alone. */
-static bool begin_leaving_off(void)
+NTW_INTERNAL bool begin_leaving_off(void)
 {
 #ifdef TELLS_SCHEDULER
     notes_touches = true;
@@ -84,7 +83,7 @@ static bool are_apart(const struct touched *one, const struct touched *other)
 }
 
 /* The caller's step has ended at such a point. */
-static void end_step(enum point point)
+NTW_INTERNAL void end_step(enum point point)
 {
     if (!notes_touches)
         return;
@@ -100,26 +99,26 @@ static void end_step(enum point point)
 }
 
 /* A deadline comes, which may let anybody go on. */
-static void stop_resting(void)
+NTW_INTERNAL void stop_resting(void)
 {
     for (uint32_t i = 0; notes_touches && i < schedule.threads_count; i++)
         schedule.threads[i]->rests = false;
 }
 
 /* What this thread does next was tried, and touched this. */
-static void let_rest(uint32_t thread, const struct touched *touched)
+NTW_INTERNAL void let_rest(uint32_t thread, const struct touched *touched)
 {
     schedule.threads[thread]->rests = true;
     schedule.threads[thread]->tried = *touched;
 }
 
-static bool does_rest(uint32_t thread)
+NTW_INTERNAL bool does_rest(uint32_t thread)
 {
     return notes_touches && thread < schedule.threads_count && schedule.threads[thread]->rests;
 }
 
 /* Each thread that can go on rests. */
-__attribute__((noreturn)) static void leave_run_off(void)
+__attribute__((noreturn)) NTW_INTERNAL void leave_run_off(void)
 {
     schedule.shared->verdict = LEFT_OFF;
     _exit(0);

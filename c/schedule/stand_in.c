@@ -2,8 +2,7 @@
 /* ---- A run begins, and the scheduler stands in for functions of POSIX: in each module of the process the places are written over by which it calls
  * them, as the loader filled them. So no name is defined twice, sanitizers and other libraries keep theirs, and without a scheduler nothing is
  * different. A call inside the C library, and a program that is linked with -static, has no such place. */
-
-typedef void function(void);
+#include "posix.h"
 
 static const struct {
     const char *name;
@@ -140,7 +139,7 @@ static int stand_in_module(struct dl_phdr_info *info, size_t size, void *with)
 }
 
 /* Where one is lacking (a C library before 2.30), nobody calls it. */
-static void stand_in_for_all(void)
+NTW_INTERNAL void stand_in_for_all(void)
 {
     for (size_t i = 0; i < STAND_INS; i++) {
         void *own = dlsym(RTLD_DEFAULT, stand_ins[i].name);

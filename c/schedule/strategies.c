@@ -1,5 +1,6 @@
 /* SPDX-License-Identifier: MIT OR Apache-2.0 */
 /* ---- Who decides at a point: chance, priorities, or a file. */
+#include "internal.h"
 
 static uint32_t any_ready(uint32_t ready)
 {
@@ -58,7 +59,7 @@ static const struct decision *wanted_here(void)
 }
 
 /* (In a process that has not done so.) */
-static void list_wanted(void)
+NTW_INTERNAL void list_wanted(void)
 {
     for (uint32_t i = 0; i < schedule.shared->wanted_count; i++) {
         uint32_t slot = first_slot(schedule.shared->wanted[i].thread, schedule.shared->wanted[i].ordinal);
@@ -68,7 +69,7 @@ static void list_wanted(void)
     }
 }
 
-static void put_decision(char text[48], const struct decision *it)
+NTW_INTERNAL void put_decision(char text[48], const struct decision *it)
 {
     if (it->chosen == THE_CLOCK)
         snprintf(text, 48, "t%u %u clock", it->thread, it->ordinal);
@@ -99,7 +100,7 @@ static uint32_t by_file(uint32_t usual, bool may_jump)
 }
 
 /* The run ends, and each decision is to have been made. */
-static void look_whether_all_fitted(void)
+NTW_INTERNAL void look_whether_all_fitted(void)
 {
     if (!schedule.must_fit || schedule.fitted == schedule.shared->wanted_count)
         return;
@@ -112,12 +113,10 @@ static void look_whether_all_fitted(void)
     }
 }
 
-static uint32_t by_tree(enum point point, uint32_t usual, bool may_jump);
-
 /* ---- All of them. */
 
 /* Answers who goes on, and writes down what was decided. (A file may say something of a point at which there is no choice: it does not fit then.) */
-static uint32_t decide(enum point point, uint32_t usual, const struct stand *stand)
+NTW_INTERNAL uint32_t decide(enum point point, uint32_t usual, const struct stand *stand)
 {
     const bool may_jump = schedule.is_free && stand->deadline != NEVER && usual != NO_ONE && usual != THE_CLOCK;
     if (schedule.strategy != BY_FILE && stand->ready + may_jump < 2) {

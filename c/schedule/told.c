@@ -12,8 +12,9 @@
  * turn t1 call t2 TIME [decided]  t1 comes to a point (or `yield`, `sleep`, `end`); t2 goes on (or `clock`, `nobody`), at that time then; by a
  *                                 decision, and not as usual
  * hangs */
+#include "internal.h"
 
-__attribute__((format(printf, 1, 2))) static void tell_turns(const char *format, ...)
+__attribute__((format(printf, 1, 2))) NTW_INTERNAL void tell_turns(const char *format, ...)
 {
     char line[160];
     va_list words;
@@ -25,12 +26,12 @@ __attribute__((format(printf, 1, 2))) static void tell_turns(const char *format,
     (void)!write(schedule.turns_told, line, (size_t)length);
 }
 
-static void tell_of_run(void)
+NTW_INTERNAL void tell_of_run(void)
 {
     tell_turns("run%s\npasses %llu\n", schedule.is_free ? " free" : "", (unsigned long long)schedule.now);
 }
 
-static void tell_of_sleep(const struct scheduled *it)
+NTW_INTERNAL void tell_of_sleep(const struct scheduled *it)
 {
     char until[24] = "never";
     if (it->until != NEVER)
@@ -39,7 +40,7 @@ static void tell_of_sleep(const struct scheduled *it)
 }
 
 /* One that slept on the word is woken, or null, among all that sleep there or some. */
-static void tell_of_woken(const void *word, const struct scheduled *it, bool among_all)
+NTW_INTERNAL void tell_of_woken(const void *word, const struct scheduled *it, bool among_all)
 {
     char who[16] = "nobody";
     if (it != NULL)
@@ -50,7 +51,7 @@ static void tell_of_woken(const void *word, const struct scheduled *it, bool amo
         tell_turns("rouses %s\n", who);
 }
 
-static void tell_of_turn(enum point point, uint32_t chosen, bool is_decided)
+NTW_INTERNAL void tell_of_turn(enum point point, uint32_t chosen, bool is_decided)
 {
     static const char *const points[] = { [AT_CALL] = "call", [AT_YIELD] = "yield", [AT_SLEEP] = "sleep", [AT_END] = "end" };
     char who[16];

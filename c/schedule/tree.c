@@ -2,35 +2,9 @@
 /* ---- The tree of choices, gone through depth first: a run for each path. It costs 1 to leave a thread that could go on, to choose another than the
  * usual one where a thread yields, and to let a deadline come early. All paths of a cost within a bound are tried, for the bounds 0, 1, .. Where
  * there is no bound, paths are left off by sleep sets (sleep_sets.c); with a bound too that would leave off runs that fail. */
+#include "internal.h"
 
-/* The most threads to explore, with the clock; choices of a run; and steps that were tried at them. */
-enum { IN_MASK = 62, MOST_NODES = 1 << 18, MOST_TRIED = 1 << 18, MOST_BOUND = 1 << 30 };
-
-/* A choice. */
-struct node {
-    uint64_t ready;              /* who could go on: bit IN_MASK is the clock */
-    uint64_t resting;            /* who of these rested */
-    uint16_t came, usual, chosen;
-    uint8_t point;
-    uint32_t spent;              /* what the choices before it cost */
-    struct touched touched;      /* by the step that was chosen: all, before that has ended */
-};
-
-/* A step that was tried at a choice of the path before the one that was chosen there, and what it touched. */
-struct tried {
-    uint32_t at;
-    uint16_t thread;
-    struct touched touched;
-};
-
-static struct {
-    uint32_t count, prefix;      /* how many choices the run had, and how many of them were asked for: */
-    bool is_cut;                 /* it had more */
-    uint32_t tried_count;        /* by the choices at which they were tried */
-    uint16_t asked[MOST_NODES];
-    struct node nodes[MOST_NODES];
-    struct tried tried[MOST_TRIED];
-} *tree;
+NTW_INTERNAL struct tree *tree;
 
 static uint64_t mask_of_ready(bool may_jump)
 {
@@ -76,7 +50,7 @@ static void let_tried_rest(uint32_t at)
 
 /* What was asked for at this choice, or what is usual past those; and the choice is noted. (A run that comes to another choice than the one before it
  * did depends on more than its schedule.) */
-static uint32_t by_tree(enum point point, uint32_t usual, bool may_jump)
+NTW_INTERNAL uint32_t by_tree(enum point point, uint32_t usual, bool may_jump)
 {
     const uint64_t ready = mask_of_ready(may_jump), resting = mask_of_resting();
     struct node *node = &tree->nodes[tree->count];
@@ -276,7 +250,7 @@ static void tell_whole(const struct exploration *search)
 }
 
 /* Tries them for each bound up to this one, or at once for the greatest, and in parts. Where a bound brings no further schedule there is none. */
-__attribute__((noreturn)) static void explore(uint32_t bound)
+__attribute__((noreturn)) NTW_INTERNAL void explore(uint32_t bound)
 {
     struct exploration search = { .began = real_ns(), .ends = open_ends() };
     uint64_t before = 0;

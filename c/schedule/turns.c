@@ -1,14 +1,15 @@
 /* SPDX-License-Identifier: MIT OR Apache-2.0 */
 /* ---- Threads of a run, who of them can go on, and the time. */
+#include "internal.h"
 
-static void wait_for_baton(struct scheduled *it)
+NTW_INTERNAL void wait_for_baton(struct scheduled *it)
 {
     while (atomic_load_explicit(&it->baton, memory_order_acquire) == 0)
         (void)AS_OWN(syscall(SYS_futex, &it->baton, FUTEX_WAIT_PRIVATE, 0, NULL, NULL, 0));
     atomic_store_explicit(&it->baton, 0, memory_order_relaxed);
 }
 
-static void hand_baton(struct scheduled *it)
+NTW_INTERNAL void hand_baton(struct scheduled *it)
 {
     atomic_store_explicit(&it->baton, 1, memory_order_release);
     (void)AS_OWN(syscall(SYS_futex, &it->baton, FUTEX_WAKE_PRIVATE, 1, NULL, NULL, 0));
@@ -16,7 +17,7 @@ static void hand_baton(struct scheduled *it)
 
 /* ---- Threads come. */
 
-static void number_thread(struct scheduled *it)
+NTW_INTERNAL void number_thread(struct scheduled *it)
 {
     it->number = schedule.threads_count;
     it->priority = (int64_t)(any_number() >> 2);
@@ -28,14 +29,14 @@ static void number_thread(struct scheduled *it)
     tell_turns("comes\n");
 }
 
-static void end_thread(struct scheduled *it)
+NTW_INTERNAL void end_thread(struct scheduled *it)
 {
     it->state = IS_OVER;
     schedule.alive--;
     tell_turns("ends t%u\n", it->number);
 }
 
-static struct scheduled *make_thread(void)
+NTW_INTERNAL struct scheduled *make_thread(void)
 {
     const uint32_t number = atomic_fetch_add(&schedule.made_count, 1);
     if (number >= MOST_SCHEDULED)
@@ -45,14 +46,9 @@ static struct scheduled *make_thread(void)
     return it;
 }
 
-/* Those whose beginning the scheduler did not see, in the order in which they came. */
-static struct {
-    pthread_mutex_t turn;
-    struct scheduled *first, **last;
-    _Atomic uint32_t count;
-} arrivals = { .turn = PTHREAD_MUTEX_INITIALIZER, .last = &arrivals.first };
+NTW_INTERNAL struct arrivals arrivals = { .turn = PTHREAD_MUTEX_INITIALIZER, .last = &arrivals.first };
 
-static void admit_arrivals(void)
+NTW_INTERNAL void admit_arrivals(void)
 {
     pthread_mutex_lock(&arrivals.turn);
     for (struct scheduled *it = arrivals.first; it != NULL; it = it->next)
@@ -65,7 +61,7 @@ static void admit_arrivals(void)
 
 /* Nobody can go on. Waits for a thread whose beginning was not seen, where the process has more threads than are known. (Of those the caller, which
  * has ended, is one.) */
-static bool awaits_arrival(bool caller_has_ended)
+NTW_INTERNAL bool awaits_arrival(bool caller_has_ended)
 {
     const struct timespec pause = { .tv_nsec = 1000000 };
     struct stat tasks;
@@ -80,10 +76,10 @@ static bool awaits_arrival(bool caller_has_ended)
 }
 
 /* Where the caller ends, of the rounds of its destructors the last. */
-static char ending_rounds[PTHREAD_DESTRUCTOR_ITERATIONS];
+NTW_INTERNAL char ending_rounds[PTHREAD_DESTRUCTOR_ITERATIONS];
 
 /* From now on the caller is this thread, once it has its turn. */
-static void take_part(struct scheduled *it)
+NTW_INTERNAL void take_part(struct scheduled *it)
 {
     me = it;
     it->thread = pthread_self();
@@ -93,7 +89,7 @@ static void take_part(struct scheduled *it)
 }
 
 /* The caller, whose beginning was not seen, comes as soon as others let it. */
-static void come_by_itself(void)
+NTW_INTERNAL void come_by_itself(void)
 {
     struct scheduled *it = make_thread();
     pthread_mutex_lock(&arrivals.turn);
@@ -106,25 +102,17 @@ static void come_by_itself(void)
 
 /* ---- Who can go on. */
 
-static bool can_go_on(uint32_t number)
+NTW_INTERNAL bool can_go_on(uint32_t number)
 {
     return number < schedule.threads_count && schedule.threads[number]->state == CAN_GO_ON;
 }
 
-/* How the threads stand: how many can go on, and the next deadline of one that sleeps. */
-struct stand {
-    uint32_t ready;
-    uint64_t deadline;
-};
-
 /* It can go on from now on. */
-static void let_go_on(struct scheduled *it)
+NTW_INTERNAL void let_go_on(struct scheduled *it)
 {
     it->state = CAN_GO_ON;
     it->since = ++schedule.turns;
 }
-
-static bool has_come_for(const struct scheduled *it);
 
 /* Those for whom has come what they wait for can go on. */
 static void look_outside(void)
@@ -139,7 +127,7 @@ static void look_outside(void)
 }
 
 /* So can those whose deadline has come. */
-static struct stand look_round(void)
+NTW_INTERNAL struct stand look_round(void)
 {
     struct stand stand = { 0, NEVER };
     look_outside();
@@ -156,7 +144,7 @@ static struct stand look_round(void)
 
 /* Of those that can go on who has waited the longest for that; where no other can, the caller if it can; NO_ONE where there is none. (So no
  * thread waits for good while others come and go.) */
-static uint32_t next_in_turn(void)
+NTW_INTERNAL uint32_t next_in_turn(void)
 {
     const struct scheduled *next = NULL;
     for (uint32_t i = 0; i < schedule.threads_count; i++)
@@ -168,7 +156,7 @@ static uint32_t next_in_turn(void)
 }
 
 /* Who goes on where nothing is decided: the caller; where it can't, or yields, the next in turn; else the clock. */
-static uint32_t usual_choice(enum point point, const struct stand *stand)
+NTW_INTERNAL uint32_t usual_choice(enum point point, const struct stand *stand)
 {
     if (point == AT_CALL)
         return me->number;

@@ -9,6 +9,7 @@
 #define RETRY_MS 1
 #include "step.h"
 
+#define NTWIN_ONE_UNIT /* (as ntwin.c has it) */
 #include "../ntwin/inside.h"
 
 static void *take_page(size_t size);

@@ -1,14 +1,7 @@
 /* SPDX-License-Identifier: MIT OR Apache-2.0 */
 /* ---- Barriers. Who comes last opens it for those that wait, and for the next round. */
+#include "internal.h"
 
-struct barrier {
-    _Atomic uint32_t threads; /* how many it is for */
-    _Atomic uint32_t come;    /* how many of them have come in this round */
-    _Atomic uint64_t rounds;
-    uint64_t unused;
-    uint32_t looks;           /* how often a thread looks before it sleeps */
-    _Atomic uint32_t inside;
-};
 _Static_assert(sizeof(struct barrier) == sizeof(SYNCHRONIZATION_BARRIER), "a barrier has its size");
 
 enum { USUAL_BARRIER_LOOKS = 2000 };

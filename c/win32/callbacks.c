@@ -1,5 +1,6 @@
 /* SPDX-License-Identifier: MIT OR Apache-2.0 */
 /* ---- Callbacks: how they come into the queue of a pool, run in its threads, and end; and how a task is gone. */
+#include "internal.h"
 
 /* Puts a task into the queue, under the latch. */
 static void append_task(struct task *task)
@@ -25,7 +26,7 @@ static struct call put_callback(struct task *task, uint32_t outcome)
 }
 
 /* A callback more is to come. (The task may be gone by then.) */
-static void submit(struct task *task)
+NTW_INTERNAL void submit(struct task *task)
 {
     const DWORD error = own.last_error;
     if (is_at_latch())
@@ -73,14 +74,8 @@ static uint32_t drop_callbacks(struct task *task)
     return dropped;
 }
 
-struct _TP_CLEANUP_GROUP {
-    struct task *first;
-    bool is_closed; /* it is gone once its last task has left it, */
-    HANDLE done;    /* and then this event is set; null where there is none */
-};
-
 /* Takes it out of its group, under the latch. Answers the group, where that is over now. */
-static PTP_CLEANUP_GROUP leave_group(struct task *task)
+NTW_INTERNAL PTP_CLEANUP_GROUP leave_group(struct task *task)
 {
     PTP_CLEANUP_GROUP group = task->group;
     if (group == NULL)
@@ -95,7 +90,7 @@ static PTP_CLEANUP_GROUP leave_group(struct task *task)
     return group->is_closed && group->first == NULL ? group : NULL;
 }
 
-static void end_group(PTP_CLEANUP_GROUP group)
+NTW_INTERNAL void end_group(PTP_CLEANUP_GROUP group)
 {
     if (group->done != NULL)
         SetEvent(group->done);
@@ -103,7 +98,7 @@ static void end_group(PTP_CLEANUP_GROUP group)
 }
 
 /* The task may be idle, under the latch, which is given back: then those who wait go on, and one that is closed is gone. */
-static void settle_task(struct task *task)
+NTW_INTERNAL void settle_task(struct task *task)
 {
     PTP_POOL pool = task->pool;
     const bool is_idle = task->running == 0 && to_come(task) == 0, ends = is_idle && task->is_closed;
@@ -172,7 +167,7 @@ static void run_callback(struct task *task, uint32_t outcome)
 }
 
 /* A callback is to come, under the latch, which is given back: in a thread of the pool, or in the caller's. */
-static void call_back(struct task *task, uint32_t outcome, bool in_thread)
+NTW_INTERNAL void call_back(struct task *task, uint32_t outcome, bool in_thread)
 {
     struct call call = { 0 };
     if (in_thread)
@@ -195,7 +190,7 @@ static bool is_without_thread(const struct _TP_POOL *pool)
 
 /* A callback is to come, but not where there is no thread for it and none can be had. Under the latch, which is given back. Answers whether it
  * comes. (The task may be gone by then.) */
-static bool try_to_submit(struct task *task)
+NTW_INTERNAL bool try_to_submit(struct task *task)
 {
     const DWORD error = own.last_error;
     PTP_POOL pool = task->pool;
@@ -250,7 +245,7 @@ static void leave_pool(PTP_POOL pool)
         free(pool);
 }
 
-static DWORD WINAPI work_in_pool(LPVOID at)
+NTW_INTERNAL DWORD WINAPI work_in_pool(LPVOID at)
 {
     PTP_POOL pool = at;
     uint32_t outcome;
@@ -270,7 +265,7 @@ static DWORD WINAPI work_in_pool(LPVOID at)
 
 /* Waits until the task has no callback, and tries meanwhile to have threads that were refused; first drops callbacks that have not begun, where
  * `cancels`. Answers how many were dropped. (In a child that was forked beside others no callback ends from then on, and none is waited for.) */
-static uint32_t wait_for_task(struct task *task, bool cancels)
+NTW_INTERNAL uint32_t wait_for_task(struct task *task, bool cancels)
 {
     const DWORD error = own.last_error;
     bool is_refused = false;
@@ -295,7 +290,7 @@ static uint32_t wait_for_task(struct task *task, bool cancels)
 }
 
 /* The program needs it no longer: it is gone once its callbacks have ended. Answers whether that is now. */
-static bool close_task(struct task *task, HANDLE done)
+NTW_INTERNAL bool close_task(struct task *task, HANDLE done)
 {
     if (is_at_latch())
         return false;
@@ -313,7 +308,7 @@ static bool close_task(struct task *task, HANDLE done)
 }
 
 /* As it is closed by a call with an event: null, one that is set once the callbacks have ended, or INVALID_HANDLE_VALUE to wait for them. */
-static BOOL end_task(struct task *task, HANDLE event)
+NTW_INTERNAL BOOL end_task(struct task *task, HANDLE event)
 {
     if (is_at_latch())
         return FALSE;

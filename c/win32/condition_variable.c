@@ -1,6 +1,7 @@
 /* SPDX-License-Identifier: MIT OR Apache-2.0 */
 /* ---- Condition variables. Who sleeps on one is parked at its address before it lets the lock go, so that no wake is missed and each wakes
  * one thread, the first that came. In the variable itself nothing is kept: it may be freed as soon as each that slept on it was woken. */
+#include "internal.h"
 
 void InitializeConditionVariable(PCONDITION_VARIABLE variable)
 {

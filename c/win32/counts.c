@@ -1,5 +1,6 @@
 /* SPDX-License-Identifier: MIT OR Apache-2.0 */
 /* ---- Counts of 64 bits, which programs for Windows pass where a `long` has 32. */
+#include "../ntwin/internal.h"
 
 BOOL ntwin_release_semaphore(HANDLE semaphore, LONGLONG count, LPLONG previous)
 {

@@ -1,5 +1,7 @@
 /* SPDX-License-Identifier: MIT OR Apache-2.0 */
 /* ---- Critical sections. LockCount is the word that threads sleep on: */
+#include "internal.h"
+
 enum { SECTION_FREE = -1, SECTION_TAKEN, SECTION_WANTED };
 #define SECTION_SPINS 0x00FFFFFFu /* the bits of a spin count that are no flags */
 

@@ -1,7 +1,8 @@
 /* SPDX-License-Identifier: MIT OR Apache-2.0 */
 /* ---- Fibers: each a stack and registers of its own, which a thread runs until it switches to another. What they have in the slots of FlsAlloc goes
  * with them; all else is the thread's. A thread's first fiber has the thread's own stack. */
-
+#include "internal.h"
+#include "../schedule/internal.h"
 #include <ucontext.h>
 
 struct fiber {
@@ -82,7 +83,7 @@ static void run_fiber(void)
     ExitThread(0);
 }
 
-static void exit_by_own_stack(DWORD code)
+NTW_INTERNAL void exit_by_own_stack(DWORD code)
 {
     struct fiber *here = fibers.current, *first = fibers.first;
     if (here == first || atomic_load_explicit(&first->runs, memory_order_relaxed))
@@ -233,7 +234,7 @@ BOOL ConvertFiberToThread(void)
 }
 
 /* (What a thread's other fibers have stays, until they are deleted.) */
-static void end_fiber_of_thread(void)
+NTW_INTERNAL void end_fiber_of_thread(void)
 {
     struct fiber *here = fibers.current;
     if (here == NULL)

@@ -1,5 +1,7 @@
 /* SPDX-License-Identifier: MIT OR Apache-2.0 */
 /* ---- Calls on files and their operations. There are no files: a program completes its operations itself. */
+#include "../ntwin/internal.h"
+#include "../win/winternl.h"
 
 BOOL SetFileCompletionNotificationModes(HANDLE file, UCHAR flags)
 {

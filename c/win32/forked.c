@@ -1,6 +1,7 @@
 /* SPDX-License-Identifier: MIT OR Apache-2.0 */
 /* ---- A child that was forked, and what is kept there of threads that slept beside the dispatcher and are not in it: the lists are emptied, and no latch
  * is taken. The caller stays in its list where it sleeps, too, and a handler of signals of its own has forked. */
+#include "internal.h"
 
 /* Nobody waits for this SRW lock. */
 static void forget_waiters(struct srw *srw)
@@ -36,7 +37,7 @@ static void forget_others_parked(void)
     atomic_store_explicit(&mine->count, 1, memory_order_relaxed);
 }
 
-static void forget_other_threads(DWORD caller)
+NTW_INTERNAL void forget_other_threads(DWORD caller)
 {
     forget_other_sleepers(caller);
     forget_others_parked();

@@ -1,5 +1,6 @@
 /* SPDX-License-Identifier: MIT OR Apache-2.0 */
 /* ---- What a handle answers. */
+#include "../ntwin/internal.h"
 
 /* Of each number the handle of the program that is marked to be inherited, under the lock: it is no other's once the number is given again. */
 static uint32_t inherited[NT_MAXIMUM_HANDLES];

@@ -1,5 +1,6 @@
 /* SPDX-License-Identifier: MIT OR Apache-2.0 */
 /* ---- The heap of the process: each piece of memory has its size before it. */
+#include "../ntwin/internal.h"
 
 struct piece {
     size_t size;

@@ -1,5 +1,6 @@
 /* SPDX-License-Identifier: MIT OR Apache-2.0 */
 /* ---- One-time initialization. The two lowest bits say how it stands; the others are its context once it is done. */
+#include "internal.h"
 
 enum { ONCE_BEFORE, ONCE_BEGUN, ONCE_DONE, ONCE_BEGUN_BY_MANY, ONCE_BITS = 3 };
 

@@ -1,6 +1,7 @@
 /* SPDX-License-Identifier: MIT OR Apache-2.0 */
 /* ---- A latch: a word that is free, taken, or taken and wanted, as the dispatcher's lock is. It is held for a few instructions. A handler of signals
  * that has interrupted them takes none, since its own thread may have it. */
+#include "internal.h"
 
 static inline bool takes_at_once(_Atomic uint32_t *latch)
 {
@@ -22,7 +23,7 @@ static inline void go_from_latch(void)
 }
 
 /* Whether the caller is a handler of signals that has interrupted its thread there; then the last error is set. The calls of pools and ports begin so. */
-static inline bool is_at_latch(void)
+NTW_INLINE bool is_at_latch(void)
 {
     if (own.latches == 0)
         return false;
@@ -30,7 +31,7 @@ static inline bool is_at_latch(void)
     return true;
 }
 
-static inline bool try_latch(_Atomic uint32_t *latch)
+NTW_INLINE bool try_latch(_Atomic uint32_t *latch)
 {
     come_to_latch();
     const bool is_taken = takes_at_once(latch);
@@ -50,7 +51,7 @@ __attribute__((noinline, cold)) static void wait_for_latch(_Atomic uint32_t *lat
         sleep_on(latch, WANTED, NULL);
 }
 
-static inline void take_latch(_Atomic uint32_t *latch)
+NTW_INLINE void take_latch(_Atomic uint32_t *latch)
 {
     come_to_latch();
     if (!takes_at_once(latch))
@@ -58,7 +59,7 @@ static inline void take_latch(_Atomic uint32_t *latch)
     comes_after(latch);
 }
 
-static inline void give_latch(_Atomic uint32_t *latch)
+NTW_INLINE void give_latch(_Atomic uint32_t *latch)
 {
     comes_before(latch);
     if (atomic_exchange_explicit(latch, FREE, memory_order_release) == WANTED)
@@ -67,7 +68,7 @@ static inline void give_latch(_Atomic uint32_t *latch)
 }
 
 /* Wakes up to this number of those threads that sleep on the word among these. */
-static void wake_among(_Atomic uint32_t *word, int count, uint32_t bits)
+NTW_INTERNAL void wake_among(_Atomic uint32_t *word, int count, uint32_t bits)
 {
     if (woke_by_schedule(word, count, bits))
         return;

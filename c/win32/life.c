@@ -1,8 +1,9 @@
 /* SPDX-License-Identifier: MIT OR Apache-2.0 */
 /* ---- What is known of a thread: how it begins and ends. */
+#include "internal.h"
 
 /* The system's own name of the thread. */
-static void name_task(pid_t task, PCWSTR description)
+NTW_INTERNAL void name_task(pid_t task, PCWSTR description)
 {
     char path[64], name[16];
     size_t length = 0;
@@ -18,7 +19,7 @@ static void name_task(pid_t task, PCWSTR description)
 }
 
 /* The caller begins, under the lock. It may have been described before. */
-static void begin_life(struct seat *seat, DWORD id)
+NTW_INTERNAL void begin_life(struct seat *seat, DWORD id)
 {
     seat->life.id = id;
     seat->life.task = gettid();
@@ -27,13 +28,13 @@ static void begin_life(struct seat *seat, DWORD id)
         name_task(seat->life.task, seat->life.description);
 }
 
-static uint64_t moments_used(struct timeval time)
+NTW_INTERNAL uint64_t moments_used(struct timeval time)
 {
     return (uint64_t)time.tv_sec * MOMENTS_PER_SECOND + (uint64_t)time.tv_usec * 10;
 }
 
 /* The caller ends, under the lock. */
-static void end_life(struct seat *seat)
+NTW_INTERNAL void end_life(struct seat *seat)
 {
     struct rusage used;
     seat->has_left = true;
@@ -47,12 +48,10 @@ static void end_life(struct seat *seat)
 /* ---- With which code a thread has ended, for who asks without the lock (win32/threads.c). The code of a place tells of its last thread until the
  * place is another's: then each handle of the last one is given its past before. */
 
-static struct ending {
-    _Atomic uint32_t has_left, code;
-} endings[NT_MANY_THREADS];
+NTW_INTERNAL struct ending endings[NT_MANY_THREADS];
 
 /* The caller has ended, under the lock; nobody knows that yet who waits for it. */
-static void tell_ending(const struct seat *seat)
+NTW_INTERNAL void tell_ending(const struct seat *seat)
 {
     struct ending *ending = &endings[seat->number];
     atomic_store_explicit(&ending->code, seat->exit_code, memory_order_release);
@@ -60,13 +59,13 @@ static void tell_ending(const struct seat *seat)
 }
 
 /* The place is another thread's from now on, under the lock. */
-static void renew_ending(const struct seat *seat)
+NTW_INTERNAL void renew_ending(const struct seat *seat)
 {
     atomic_store_explicit(&endings[seat->number].has_left, false, memory_order_release);
 }
 
 /* The caller, which was created suspended, sleeps until it was resumed as often. */
-static void wait_to_begin(struct seat *seat)
+NTW_INTERNAL void wait_to_begin(struct seat *seat)
 {
     for (uint32_t seen; (seen = atomic_load_explicit(&seat->suspended, memory_order_acquire)) != 0;)
         sleep_on(&seat->suspended, seen, NULL);

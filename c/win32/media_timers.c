@@ -1,5 +1,6 @@
 /* SPDX-License-Identifier: MIT OR Apache-2.0 */
 /* ---- winmm's timers: callbacks of the thread that keeps the time, one after another, as winmm has a thread for all. */
+#include "internal.h"
 
 enum { MEDIA_TIMERS = 16, LONGEST_DELAY_MS = 1000000 };
 

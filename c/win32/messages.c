@@ -1,5 +1,6 @@
 /* SPDX-License-Identifier: MIT OR Apache-2.0 */
 /* ---- The texts of errors: of those that calls here answer, and that programs name. */
+#include "internal.h"
 
 static const struct {
     DWORD error;
@@ -163,7 +164,7 @@ DWORD FormatMessageA(DWORD flags, LPCVOID source, DWORD error, DWORD language, L
 }
 
 /* The same in letters of other sizes. (A text of the program's own is not taken in these forms.) */
-static DWORD format_message(DWORD flags, DWORD error, void *buffer, DWORD size, size_t bytes)
+NTW_INTERNAL DWORD format_message(DWORD flags, DWORD error, void *buffer, DWORD size, size_t bytes)
 {
     char *message = (flags & FORMAT_MESSAGE_FROM_STRING) == 0 ? message_asked(flags, NULL, error, buffer) : NULL;
     if (message == NULL)

@@ -1,6 +1,8 @@
 /* SPDX-License-Identifier: MIT OR Apache-2.0 */
 /* ---- Modules: the libraries of the system, and one with the calls that are here, by whichever of Windows' names. */
-
+#include "internal.h"
+#include "../schedule/internal.h"
+#include "../win/winternl.h"
 #include "calls_by_name.h"
 
 static const char module_here;
@@ -205,7 +207,7 @@ FARPROC GetProcAddress(HMODULE module, LPCSTR name)
 }
 
 /* The file of a module, by its whole path: what is linked into the program is there. */
-static bool read_path(HMODULE module, char path[PATH_MAX])
+NTW_INTERNAL bool read_path(HMODULE module, char path[PATH_MAX])
 {
     Dl_info info;
     void *map = module;
@@ -218,7 +220,7 @@ static bool read_path(HMODULE module, char path[PATH_MAX])
 }
 
 /* Gives a text, whose characters have this number of bytes, and what ends it, or as much as there is room for. Answers as GetModuleFileName. */
-static DWORD give_text(void *to, DWORD room, const void *text, size_t length, size_t bytes)
+NTW_INTERNAL DWORD give_text(void *to, DWORD room, const void *text, size_t length, size_t bytes)
 {
     const bool fits = length < room;
     const size_t given = (fits ? length : room - 1) * bytes;

@@ -1,40 +1,23 @@
 /* SPDX-License-Identifier: MIT OR Apache-2.0 */
 /* ---- Names in the process. A name stands for an object, of which a handle with all rights is kept that no program sees. It is gone with the last
  * handle that a program has to the object. */
+#include "../ntwin/by_pointer.h"
+#include "internal.h"
 
 enum { NAME_LISTS = 256 };
 
-struct named {
-    struct named *next;     /* among those of one list */
-    enum kind kind;
-    uint32_t number;        /* of the handle that is kept */
-    uint32_t handles;       /* how many a program has */
-    WCHAR name[];
-};
-
-/* A name as a call gives it: one of these three, or none; and where in the program that call is. */
-struct given_name {
-    LPCSTR narrow;
-    LPCWSTR wide;
-    const uint16_t *utf16;
-    const void *place;
-};
-#define NARROW(name) ((struct given_name){ .narrow = (name), .place = __builtin_return_address(0) })
-#define WIDE(name) ((struct given_name){ .wide = (name), .place = __builtin_return_address(0) })
-#define UTF16(name) ((struct given_name){ .utf16 = (name), .place = __builtin_return_address(0) })
-
-static bool has_name(struct given_name given)
+NTW_INTERNAL bool has_name(struct given_name given)
 {
     return given.narrow != NULL || given.wide != NULL || given.utf16 != NULL;
 }
 
-static bool is_named(struct given_name given)
+NTW_INTERNAL bool is_named(struct given_name given)
 {
     return has_name(given) && (given.narrow != NULL ? *given.narrow != 0 : given.wide != NULL ? *given.wide != 0 : *given.utf16 != 0);
 }
 
 /* Reads a character of UTF-16 before `end`, which is null where a null ends the text, and goes past it. Half a pair stands for itself. */
-static uint32_t read_utf16(const uint16_t **at, const uint16_t *end)
+NTW_INTERNAL uint32_t read_utf16(const uint16_t **at, const uint16_t *end)
 {
     const uint32_t first = *(*at)++;
     if ((first & 0xFC00) != 0xD800 || *at == end || (**at & 0xFC00) != 0xDC00)
@@ -50,13 +33,8 @@ static WCHAR next_letter(struct given_name *given)
     return given->wide != NULL ? *given->wide++ : (WCHAR)read_utf16(&given->utf16, NULL);
 }
 
-/* A name, read from what a program gives, which has no prefix Local\. */
-struct name {
-    WCHAR text[MAX_PATH + 1];
-};
-
 /* Reads a name. Answers 0, or why it is none. */
-static uint32_t read_name(struct given_name given, struct name *name)
+NTW_INTERNAL uint32_t read_name(struct given_name given, struct name *name)
 {
     static const WCHAR local[] = L"Local\\", global[] = L"Global\\";
     size_t length = 0;
@@ -74,7 +52,7 @@ static uint32_t read_name(struct given_name given, struct name *name)
 }
 
 /* The list of a name. */
-static struct named **list_of_name(const WCHAR *name)
+NTW_INTERNAL struct named **list_of_name(const WCHAR *name)
 {
     static struct named *lists[NAME_LISTS];
     uint32_t hash = 2166136261u;
@@ -84,7 +62,7 @@ static struct named **list_of_name(const WCHAR *name)
 }
 
 /* The object of this name, under the lock; null where there is none. */
-static struct named *find_named(const WCHAR *name)
+NTW_INTERNAL struct named *find_named(const WCHAR *name)
 {
     struct named *at = *list_of_name(name);
     while (at != NULL && wcscmp(at->name, name) != 0)
@@ -93,7 +71,7 @@ static struct named *find_named(const WCHAR *name)
 }
 
 /* An object of this name that is not in the list yet; null where memory is refused. */
-static struct named *make_named(const struct name *name)
+NTW_INTERNAL struct named *make_named(const struct name *name)
 {
     const size_t length = wcslen(name->text) + 1;
     struct named *made = malloc(sizeof *made + length * sizeof *made->name);
@@ -105,14 +83,14 @@ static struct named *make_named(const struct name *name)
 }
 
 /* The program has this handle too, under the lock. */
-static void note_named(struct named *named, uint32_t number)
+NTW_INTERNAL void note_named(struct named *named, uint32_t number)
 {
     waiting.named[number] = named;
     named->handles++;
 }
 
 /* The program has this handle of a named object no longer, under the lock. */
-static void forget_named(struct seat *caller, uint32_t number)
+NTW_INTERNAL void forget_named(struct seat *caller, uint32_t number)
 {
     struct named *named = waiting.named[number];
     waiting.named[number] = NULL;
@@ -127,7 +105,7 @@ static void forget_named(struct seat *caller, uint32_t number)
 }
 
 /* A handle more of a named object, with these rights, under the lock. Answers 0, or why not. */
-static uint32_t open_named(struct seat *seat, struct named *named, DWORD rights, struct nt_reply *reply)
+NTW_INTERNAL uint32_t open_named(struct seat *seat, struct named *named, DWORD rights, struct nt_reply *reply)
 {
     const uint32_t refused = nt_duplicate(&waiting.dispatcher, seat->number, named->number, rights, reply);
     if (refused == 0) {

@@ -1,6 +1,6 @@
 /* SPDX-License-Identifier: MIT OR Apache-2.0 */
 /* ---- Native calls: each as Win32's, with a state for its error, and the last error as it was. */
-
+#include "../ntwin/by_pointer.h"
 #include "../win/winternl.h"
 
 static const struct {

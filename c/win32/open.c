@@ -1,7 +1,8 @@
 /* SPDX-License-Identifier: MIT OR Apache-2.0 */
 /* ---- Handles of objects by their names. */
+#include "internal.h"
 
-static HANDLE open_by_name(enum kind kind, struct given_name given, DWORD access)
+NTW_INTERNAL HANDLE open_by_name(enum kind kind, struct given_name given, DWORD access)
 {
     struct name name;
     struct nt_reply reply;

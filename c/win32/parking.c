@@ -1,39 +1,22 @@
 /* SPDX-License-Identifier: MIT OR Apache-2.0 */
 /* ---- Threads that wait at an address, the first that came first. Each sleeps on a word of its own, and is woken by itself alone. The addresses
  * are spread over lists; each list has a latch. (`nt_protocols` has laws of this: its specs/Parking.antt names the functions below.) */
+#include "internal.h"
+#include "../schedule/internal.h"
 
-enum { PARKING_LISTS = 256, AWAKENED_AT_ONCE = 64, UNPARKED = 0, PARKED = 1, LEAST_PAUSE = 64, MOST_PAUSE = 4096 };
-
-/* Why a thread waits: told.c says so of each but those that are the library's own. */
-enum why { ON_ADDRESS, ON_VARIABLE, AT_BARRIER, FOR_ONCE, FOR_CALLBACKS, OF_LIBRARY };
-
-/* A thread's place in a list. It has one, since it waits at one address at a time. */
-struct parked {
-    _Atomic uint32_t word;         /* PARKED while it stands in a list, or UNPARKED */
-    const volatile void *address;
-    struct parked *earlier, *later;
-    enum why why;
-    DWORD id;
-    uint32_t looks;                /* how often it looks at its word before it sleeps; */
-    uint32_t pause, left;          /* how many waits lie between two tries whether looks help, and are left until the next */
-};
-#ifndef own_place /* (A test may have threads of its own making.) */
-static _Thread_local struct parked own_place __attribute__((tls_model("initial-exec")));
+#ifndef own_place
+NTW_INTERNAL _Thread_local struct parked own_place __attribute__((tls_model("initial-exec")));
 #endif
 
-static struct parking {
-    _Atomic uint32_t latch;
-    _Atomic uint32_t count;        /* how many wait in this list, or are about to */
-    struct parked *first, *last;
-} parkings[PARKING_LISTS];
+NTW_INTERNAL struct parking parkings[PARKING_LISTS];
 
-static struct parking *parking_of(const volatile void *address)
+NTW_INTERNAL struct parking *parking_of(const volatile void *address)
 {
     return &parkings[((uintptr_t)address >> 3) * UINT64_C(0x9E3779B97F4A7C15) >> 56];
 }
 
 /* The caller waits at this address from now on, under the latch. */
-static void park(struct parking *parking, const volatile void *address, enum why why)
+NTW_INTERNAL void park(struct parking *parking, const volatile void *address, enum why why)
 {
     own_place.why = why;
     own_place.id = id_of_caller();
@@ -95,13 +78,13 @@ static bool look_whether_unparked(void)
 }
 
 /* A moment of the monotonic clock that comes after this number of milliseconds, or NEVER. */
-static uint64_t moment_after(DWORD ms)
+NTW_INTERNAL uint64_t moment_after(DWORD ms)
 {
     return ms == INFINITE ? NEVER : monotonic() + (uint64_t)ms * (MOMENTS_PER_SECOND / 1000);
 }
 
 /* Sleeps until another thread unparks the caller, or that moment. Answers whether it was unparked: else it waits no longer. */
-static bool sleep_parked(struct parking *parking, uint64_t moment)
+NTW_INTERNAL bool sleep_parked(struct parking *parking, uint64_t moment)
 {
     const struct timespec until = {
         .tv_sec = (time_t)(moment / MOMENTS_PER_SECOND),
@@ -138,7 +121,7 @@ static bool sleep_parked(struct parking *parking, uint64_t moment)
 }
 
 /* Unparks those that wait at this address, up to `most` of them, the first that came first. */
-static void unpark(const volatile void *address, uint32_t most)
+NTW_INTERNAL void unpark(const volatile void *address, uint32_t most)
 {
     _Atomic uint32_t *asleep[AWAKENED_AT_ONCE];
     uint32_t count = 0, unparked = 0;
@@ -197,7 +180,7 @@ __attribute__((noinline, cold)) static void come_to_address(const volatile void 
 }
 
 /* As WaitOnAddress. */
-static BOOL wait_on(volatile void *address, const void *compare, SIZE_T size, DWORD ms, enum why why)
+NTW_INTERNAL BOOL wait_on(volatile void *address, const void *compare, SIZE_T size, DWORD ms, enum why why)
 {
     if (size != 1 && size != 2 && size != 4 && size != 8)
         return fail(ERROR_INVALID_PARAMETER);

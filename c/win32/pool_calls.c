@@ -1,5 +1,7 @@
 /* SPDX-License-Identifier: MIT OR Apache-2.0 */
 /* ---- The pool's calls: pools, environments, work and cleanup groups. */
+#include "internal.h"
+#include "../schedule/internal.h"
 
 /* Readies a task for this environment, under the latch; null is the usual one. */
 static void add_task(struct task *task, PVOID context, PTP_CALLBACK_ENVIRON environment)
@@ -20,7 +22,7 @@ static void add_task(struct task *task, PVOID context, PTP_CALLBACK_ENVIRON envi
 
 /* Room for a task of this size, whose callback the program gives or not. It is there only if the keeper of timers is, which tries again where the pool is
  * refused a thread: so its callbacks come, whatever the program waits on. Null, with the last error set, where there is none. */
-static void *new_task(bool has_callback, size_t size)
+NTW_INTERNAL void *new_task(bool has_callback, size_t size)
 {
     if (is_at_latch())
         return NULL;
@@ -31,7 +33,7 @@ static void *new_task(bool has_callback, size_t size)
     return made;
 }
 
-static void open_task(struct task *task, PVOID context, PTP_CALLBACK_ENVIRON environment)
+NTW_INTERNAL void open_task(struct task *task, PVOID context, PTP_CALLBACK_ENVIRON environment)
 {
     take_latch(&pools_latch);
     add_task(task, context, environment);
@@ -183,7 +185,7 @@ struct simple {
     LPTHREAD_START_ROUTINE function;
 };
 
-static void free_task(struct task *task)
+NTW_INTERNAL void free_task(struct task *task)
 {
     free(task);
 }

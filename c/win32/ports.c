@@ -1,6 +1,8 @@
 /* SPDX-License-Identifier: MIT OR Apache-2.0 */
 /* ---- Completion ports. A packet that is posted goes to the thread that came last, if the port lets one more run, or waits in the port. A thread that
  * waits for a packet waits for an event of its own. For the dispatcher a port is an event that is never set. */
+#include "../ntwin/by_pointer.h"
+#include "internal.h"
 
 struct packet {
     struct packet *next;
@@ -15,17 +17,9 @@ struct getter {
     bool is_told;                 /* it waits no longer: it was given one, or the port is closed */
 };
 
-struct port {
-    struct packet *first, *last;
-    struct getter *top;           /* the thread that came last */
-    uint32_t running, most;       /* how many threads have a packet of it and do not sleep, and how many may */
-    uint32_t handles;             /* under the dispatcher's lock */
-    uint32_t users;               /* how many calls are in it, and threads have its packets */
-    bool is_closed;
-};
-static _Atomic uint32_t ports_latch;
+NTW_INTERNAL _Atomic uint32_t ports_latch;
 
-static uint32_t *handles_of_port(struct port *port)
+NTW_INTERNAL uint32_t *handles_of_port(struct port *port)
 {
     return &port->handles;
 }
@@ -156,7 +150,7 @@ static HANDLE begin_to_rest(void)
     return event;
 }
 
-static void rest_with_packet(void)
+NTW_INTERNAL void rest_with_packet(void)
 {
     HANDLE event = own.port != NULL && !own.rests ? begin_to_rest() : NULL;
     if (event != NULL)
@@ -165,7 +159,7 @@ static void rest_with_packet(void)
 
 /* The same, under the lock, where the caller's wait pends. It makes no call then, so a thread sets the event that is yet to come; where none is, the
  * caller counts among those that run. */
-static void rest_beside_wait(struct seat *caller)
+NTW_INTERNAL void rest_beside_wait(struct seat *caller)
 {
     struct nt_reply reply;
     if (waiting.seated == waiting.places)
@@ -175,7 +169,7 @@ static void rest_beside_wait(struct seat *caller)
         note(caller);
 }
 
-static void go_on_with_packet(void)
+NTW_INTERNAL void go_on_with_packet(void)
 {
     take_latch(&ports_latch);
     own.rests = false;
@@ -235,7 +229,7 @@ static HANDLE event_to_wait(void)
 /* ---- Packets are posted and gotten. */
 
 /* The last handle of a port is closed: who waits there learns that. */
-static void close_port(struct port *port)
+NTW_INTERNAL void close_port(struct port *port)
 {
     take_latch(&ports_latch);
     port->users++;

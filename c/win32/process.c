@@ -1,5 +1,6 @@
 /* SPDX-License-Identifier: MIT OR Apache-2.0 */
 /* ---- The C runtime's threads, over CreateThread. */
+#include "internal.h"
 
 /* The last error of the call of the C runtime that failed last. */
 static _Thread_local unsigned long dos_error __attribute__((tls_model("initial-exec")));
@@ -208,7 +209,7 @@ struct handler {
     struct handler *_Atomic next;
 };
 static struct handler *_Atomic handlers;
-static _Atomic uint32_t handlers_latch;
+NTW_INTERNAL _Atomic uint32_t handlers_latch;
 
 PVOID AddVectoredExceptionHandler(ULONG first, PVECTORED_EXCEPTION_HANDLER call)
 {

@@ -1,6 +1,6 @@
 /* SPDX-License-Identifier: MIT OR Apache-2.0 */
 /* ---- Processors: one group and one node, the first 64 of them in a mask. */
-
+#include "internal.h"
 #include <dirent.h>
 
 DWORD GetCurrentProcessorNumber(void)
@@ -15,7 +15,7 @@ void GetCurrentProcessorNumberEx(PPROCESSOR_NUMBER number)
 }
 
 /* A bit for each of this number of processors, of 64 at the most. */
-static DWORD_PTR mask_of(long processors)
+NTW_INTERNAL DWORD_PTR mask_of(long processors)
 {
     return processors >= MAXIMUM_PROCESSORS ? ~(DWORD_PTR)0 : ((DWORD_PTR)1 << processors) - 1;
 }
@@ -36,7 +36,7 @@ static DWORD_PTR processors_of(pid_t task)
 /* The processors on which the process may run: those that were set, or those of its first thread, when that was asked first. */
 static _Atomic DWORD_PTR processors_found;
 
-static DWORD_PTR processors_here(void)
+NTW_INTERNAL DWORD_PTR processors_here(void)
 {
     DWORD_PTR mask = atomic_load_explicit(&processors_found, memory_order_relaxed);
     if (mask == 0) {

@@ -1,30 +1,18 @@
 /* SPDX-License-Identifier: MIT OR Apache-2.0 */
 /* ---- Who sleeps for a lock, for those who ask why threads wait (told.c). It is noted just before a thread falls asleep, and no longer once it has
  * the lock, so a lock that is named is still there. */
+#include "internal.h"
 
-struct sleeper {
-    struct sleeper *earlier, *later;
-    LPCRITICAL_SECTION section; /* one of these two */
-    PSRWLOCK lock;
-    bool shares;                /* it wants to share that lock */
-    DWORD id;
-};
-
-static struct {
-    _Atomic uint32_t latch;
-    struct sleeper *first;
-} sleepers;
+NTW_INTERNAL struct sleepers sleepers;
 
 /* The caller's id. */
-static inline DWORD id_of_caller(void)
+NTW_INLINE DWORD id_of_caller(void)
 {
     const DWORD id = own.id;
     return id != 0 ? id : GetCurrentThreadId();
 }
 
-static void rest_with_packet(void);
-
-static void note_sleeper(struct sleeper *it)
+NTW_INTERNAL void note_sleeper(struct sleeper *it)
 {
     rest_with_packet();
     it->id = id_of_caller();
@@ -38,7 +26,7 @@ static void note_sleeper(struct sleeper *it)
     give_latch(&sleepers.latch);
 }
 
-static void forget_sleeper(struct sleeper *it)
+NTW_INTERNAL void forget_sleeper(struct sleeper *it)
 {
     take_latch(&sleepers.latch);
     if (it->earlier != NULL)

@@ -1,6 +1,7 @@
 /* SPDX-License-Identifier: MIT OR Apache-2.0 */
 /* ---- Singly linked lists. A latch in the header makes each call one step, so that an entry which one thread has popped, and perhaps freed, is
  * read by no other. */
+#include "internal.h"
 
 struct list {
     PSLIST_ENTRY first;

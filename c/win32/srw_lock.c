@@ -1,24 +1,14 @@
 /* SPDX-License-Identifier: MIT OR Apache-2.0 */
 /* ---- SRW locks: a word of who has it and who wants it, on which those sleep who want it. While a thread waits that wants it alone, or any that
  * shares, no new thread may share. */
+#include "internal.h"
 
-struct srw {
-    _Atomic uint32_t state;
-    uint32_t unused;
-};
 _Static_assert(sizeof(struct srw) == sizeof(SRWLOCK), "an SRW lock is one pointer");
-
-#define SHARER 1u
-#define SHARERS 0xFFFFu          /* these bits: how many share it, */
-#define ALONE SHARERS            /* or one has it alone */
-#define ALONE_WAITER 0x10000u
-#define ALONE_WAITERS 0x7FFF0000u /* how many wait that want it alone, until they have it */
-#define SHARERS_WAIT 0x80000000u
 
 /* Among those who sleep on the state. */
 enum { WANT_IT_ALONE = 1, WANT_TO_SHARE = 2 };
 
-static struct srw *srw_of(PSRWLOCK lock)
+NTW_INTERNAL struct srw *srw_of(PSRWLOCK lock)
 {
     return (struct srw *)(void *)lock;
 }
@@ -44,7 +34,7 @@ static inline bool swap_state(struct srw *srw, uint32_t *seen, uint32_t value)
     return atomic_compare_exchange_strong_explicit(&srw->state, seen, value, memory_order_acquire, memory_order_relaxed);
 }
 
-static inline uint32_t state_of(struct srw *srw)
+NTW_INLINE uint32_t state_of(struct srw *srw)
 {
     return atomic_load_explicit(&srw->state, memory_order_relaxed);
 }

@@ -1,28 +1,16 @@
 /* SPDX-License-Identifier: MIT OR Apache-2.0 */
 /* ---- Slots with a value for each thread: those of TlsAlloc, and those of FlsAlloc, which have a callback. A slot counts how often it was taken
  * and given back; a thread's value counts only if it is of the slot's present count. So a new slot is null in each thread. */
-
-enum slot_kind { TLS, FLS, SLOT_KINDS };
-enum { TLS_SLOTS = 1088, FLS_SLOTS = FLS_MAXIMUM_AVAILABLE, SLOTS_OF_A_BLOCK = 64, BLOCKS = 64 };
+#include "internal.h"
 
 struct slot {
     _Atomic uint32_t turn; /* odd while it is taken */
     PFLS_CALLBACK_FUNCTION callback;
 };
 
-struct value {
-    _Atomic uint32_t turn;
-    _Atomic(PVOID) value;
-};
-
-/* What one thread has in its slots. */
-struct storage {
-    _Atomic(struct value *) blocks[SLOT_KINDS][BLOCKS];
-    struct storage *earlier, *later;
-};
-static _Thread_local struct storage *storage __attribute__((tls_model("initial-exec")));
+NTW_INTERNAL _Thread_local struct storage *storage __attribute__((tls_model("initial-exec")));
 /* Where the thread runs a fiber, what that has in the slots of FlsAlloc; else null, and the thread has it (fibers.c). */
-static _Thread_local struct storage *storage_of_fiber __attribute__((tls_model("initial-exec")));
+NTW_INTERNAL _Thread_local struct storage *storage_of_fiber __attribute__((tls_model("initial-exec")));
 
 static struct slot tls_slots[TLS_SLOTS], fls_slots[FLS_SLOTS];
 /* (No FLS slot has index 0.) */
@@ -31,12 +19,7 @@ static const struct {
     uint32_t first, count;
 } slots_of[] = { [TLS] = { tls_slots, 0, TLS_SLOTS }, [FLS] = { fls_slots, 1, FLS_SLOTS } };
 
-static struct {
-    _Atomic uint32_t latch;
-    struct storage *threads; /* all that have some */
-    bool has_key;
-    pthread_key_t leaving;
-} storages;
+NTW_INTERNAL struct storages storages;
 
 static bool is_slot(enum slot_kind kind, DWORD index)
 {
@@ -52,7 +35,7 @@ static inline struct storage *storage_of(enum slot_kind kind)
 }
 
 /* Those whose values are handed back where a slot is freed, under the latch. */
-static void list_storage(struct storage *made)
+NTW_INTERNAL void list_storage(struct storage *made)
 {
     made->earlier = NULL;
     made->later = storages.threads;
@@ -72,7 +55,7 @@ static void unlist_storage(struct storage *it)
 }
 
 /* The caller's storage, which it gets now. Null where memory is refused. */
-static struct storage *make_storage(void)
+NTW_INTERNAL struct storage *make_storage(void)
 {
     struct storage *made = calloc(1, sizeof *made);
     if (made == NULL)
@@ -133,7 +116,7 @@ static PVOID next_fls_value(struct storage *of_thread, DWORD *index, PFLS_CALLBA
 }
 
 /* Calls the callbacks with a thread's values. Answers whether there was one. */
-static bool hand_back_values(struct storage *of_thread)
+NTW_INTERNAL bool hand_back_values(struct storage *of_thread)
 {
     PFLS_CALLBACK_FUNCTION callback;
     PVOID value;
@@ -144,7 +127,7 @@ static bool hand_back_values(struct storage *of_thread)
 }
 
 /* The callbacks get all values, those too that callbacks set, as often as destructors are called; and there is none left. */
-static void empty_storage(struct storage *it)
+NTW_INTERNAL void empty_storage(struct storage *it)
 {
     for (int round = 0; round < PTHREAD_DESTRUCTOR_ITERATIONS && hand_back_values(it); round++)
         continue;
@@ -156,8 +139,6 @@ static void empty_storage(struct storage *it)
     for (int block = 0; block < SLOT_KINDS * BLOCKS; block++)
         free(atomic_load_explicit(&it->blocks[block / BLOCKS][block % BLOCKS], memory_order_relaxed));
 }
-
-static void end_fiber_of_thread(void);
 
 /* The thread ends, and the fiber with it that it runs. */
 static void end_storage(void *of_thread)

@@ -1,5 +1,6 @@
 /* SPDX-License-Identifier: MIT OR Apache-2.0 */
 /* ---- The library, the machine, and the time of day. */
+#include "internal.h"
 
 /* (c/kit/unproved defines it, in a dispatcher that it builds without proofs.) */
 extern const char nt_unproved __attribute__((weak));

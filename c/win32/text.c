@@ -1,5 +1,6 @@
 /* SPDX-License-Identifier: MIT OR Apache-2.0 */
 /* ---- Text in UTF-8 and in WCHAR, a character each. */
+#include "internal.h"
 
 #define NO_CHARACTER 0xFFFDu /* in the place of what is none */
 
@@ -47,7 +48,7 @@ static int write_character(unsigned char bytes[4], uint32_t point)
 }
 
 /* Answers the count, or 0 where it does not fit. */
-static int counted(int64_t count, int size)
+NTW_INTERNAL int counted(int64_t count, int size)
 {
     if (count > INT_MAX || (size != 0 && count > size)) {
         fail(ERROR_INSUFFICIENT_BUFFER);

@@ -1,8 +1,10 @@
 /* SPDX-License-Identifier: MIT OR Apache-2.0 */
 /* ---- What a thread's handle answers. */
+#include "../ntwin/by_pointer.h"
+#include "internal.h"
 
 /* The thread that this handle names, with the lock taken; null, with the last error set and the lock given back, where it names none. */
-static struct seat *begin_with_thread(HANDLE handle, struct seat **caller)
+NTW_INTERNAL struct seat *begin_with_thread(HANDLE handle, struct seat **caller)
 {
     struct seat *seat = *caller = begin();
     if (seat == NULL || handle == CURRENT_THREAD)
@@ -122,7 +124,7 @@ DWORD SuspendThread(HANDLE thread)
 }
 
 /* What the system has of a thread, or the process, after its name: that is in brackets, and may have any character. Null where it is gone. */
-static const char *read_state(const char *path, char line[1024])
+NTW_INTERNAL const char *read_state(const char *path, char line[1024])
 {
     FILE *file = fopen(path, "re");
     if (file == NULL)
@@ -145,7 +147,7 @@ static void read_times_used(const struct life *life, uint64_t used[2])
         used[i] = ticks[i] * (MOMENTS_PER_SECOND / (uint64_t)sysconf(_SC_CLK_TCK));
 }
 
-static void set_file_time(LPFILETIME to, uint64_t moments)
+NTW_INTERNAL void set_file_time(LPFILETIME to, uint64_t moments)
 {
     to->dwLowDateTime = (DWORD)moments;
     to->dwHighDateTime = (DWORD)(moments >> 32);
@@ -217,7 +219,7 @@ BOOL GetThreadPriorityBoost(HANDLE thread, PBOOL is_disabled)
     return TRUE;
 }
 
-static BOOL is_process(HANDLE handle)
+NTW_INTERNAL BOOL is_process(HANDLE handle)
 {
     return handle == CURRENT_PROCESS || fail(ERROR_INVALID_HANDLE);
 }

@@ -1,15 +1,6 @@
 /* SPDX-License-Identifier: MIT OR Apache-2.0 */
 /* ---- Timers with callbacks. They stand in a heap by the moment at which they are due; one thread sleeps to the first. */
-
-struct _TP_TIMER {
-    struct task task;
-    PTP_TIMER_CALLBACK callback;         /* one of the two */
-    WAITORTIMERCALLBACK queue_callback;
-    uint64_t due;
-    DWORD period;                        /* in ms; 0 for none */
-    size_t place;                        /* in the heap, from 1 on; 0 where it is not set */
-    bool in_thread, is_over;
-};
+#include "internal.h"
 
 /* Under the latch of the pools, but for `is_kept`. */
 static struct {
@@ -151,7 +142,7 @@ static bool is_time_kept(void)
 }
 
 /* Sees to it that a thread keeps the time. Answers 0, or why none does: in a child that was forked beside others none of the library's is there. */
-static uint32_t keep_time(void)
+NTW_INTERNAL uint32_t keep_time(void)
 {
     if (process.is_forked)
         return ERROR_NOT_SUPPORTED;
@@ -188,7 +179,7 @@ static void free_timer(struct task *task)
 }
 
 /* Sets a timer; NEVER for none. It is over where it has no period, and was due. */
-static void set_pool_timer(PTP_TIMER timer, uint64_t due, DWORD period)
+NTW_INTERNAL void set_pool_timer(PTP_TIMER timer, uint64_t due, DWORD period)
 {
     take_latch(&pools_latch);
     timer->period = period;
@@ -220,7 +211,7 @@ static void call_timer(struct task *task, PTP_CALLBACK_INSTANCE instance, uint32
 }
 
 /* A timer that is not set; null, with the last error set, where there is none. */
-static PTP_TIMER make_timer(struct _TP_TIMER what, PVOID context, PTP_CALLBACK_ENVIRON environment)
+NTW_INTERNAL PTP_TIMER make_timer(struct _TP_TIMER what, PVOID context, PTP_CALLBACK_ENVIRON environment)
 {
     if (is_at_latch())
         return NULL;

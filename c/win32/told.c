@@ -1,22 +1,10 @@
 /* SPDX-License-Identifier: MIT OR Apache-2.0 */
 /* ---- Why threads wait that sleep beside the dispatcher: for a lock, on a condition variable or an address, at a barrier, for an initialization or for
  * callbacks. A thread that still looks before it sleeps is not named. */
+#include "internal.h"
 
-enum { TOLD_AT_MOST = 512 };
-
-/* A thread that waits, with what was seen of what it waits for. */
-struct told {
-    DWORD id, owner; /* of a critical section; 0 where it has none just now */
-    int depth;       /* how deep that owns it */
-    char what[128];
-};
-
-static struct told_all {
-    struct told of[TOLD_AT_MOST];
-    uint32_t count;
-    bool is_whole;   /* all could be looked at */
-} told_all;
-static pthread_mutex_t telling = PTHREAD_MUTEX_INITIALIZER;
+NTW_INTERNAL struct told_all told_all;
+NTW_INTERNAL pthread_mutex_t telling = PTHREAD_MUTEX_INITIALIZER;
 
 static struct told *one_more_told(DWORD id)
 {
@@ -75,7 +63,7 @@ static void look_at_parked(const struct parked *who, struct told *it)
 }
 
 /* Looks at all that sleep; each latch is held for that alone. */
-static void look_at_sleepers(void)
+NTW_INTERNAL void look_at_sleepers(void)
 {
     told_all.count = 0;
     told_all.is_whole = true;
@@ -100,7 +88,7 @@ static void look_at_sleepers(void)
 }
 
 /* Who owns the critical section that this thread waits for; 0 where it waits for none. */
-static DWORD held_by(DWORD id)
+NTW_INTERNAL DWORD held_by(DWORD id)
 {
     for (uint32_t i = 0; i < told_all.count; i++)
         if (told_all.of[i].id == id && told_all.of[i].owner != 0)
@@ -109,7 +97,7 @@ static DWORD held_by(DWORD id)
 }
 
 /* Whether each of some threads, this one the lowest of them by its id, waits for a section that the next owns, round to the first. */
-static bool begins_knot(DWORD first)
+NTW_INTERNAL bool begins_knot(DWORD first)
 {
     DWORD at = held_by(first);
     for (uint32_t i = 0; i < told_all.count && at != 0 && at != first; i++) {
@@ -120,15 +108,12 @@ static bool begins_knot(DWORD first)
     return at == first;
 }
 
-/* Writes which thread that is. */
-typedef void thread_writer(struct report *to, DWORD id);
-
-static void write_id(struct report *to, DWORD id)
+NTW_INTERNAL void write_id(struct report *to, DWORD id)
 {
     add(to, "thread %u", id);
 }
 
-static void write_told(struct report *to, const struct told *it, thread_writer *write_thread)
+NTW_INTERNAL void write_told(struct report *to, const struct told *it, thread_writer *write_thread)
 {
     write_thread(to, it->id);
     add(to, " %s", it->what);
@@ -149,7 +134,7 @@ static void write_knot_of_ids(struct report *to, DWORD first)
 }
 
 /* Writes a line for each thread that sleeps, and for each knot of critical sections. */
-static void write_waits(struct report *to, const char *none)
+NTW_INTERNAL void write_waits(struct report *to, const char *none)
 {
     (void)none;
     pthread_mutex_lock(&telling);

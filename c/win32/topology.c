@@ -1,5 +1,6 @@
 /* SPDX-License-Identifier: MIT OR Apache-2.0 */
 /* ---- Which processors are of one core, one package, the node and the group. */
+#include "internal.h"
 
 /* A number that the system has of a processor, or -1. */
 static int told_of_processor(int processor, const char *what)

@@ -1,5 +1,6 @@
 /* SPDX-License-Identifier: MIT OR Apache-2.0 */
 /* ---- The calls with wide text for a program whose WCHARs have 16 bits (win/utf16.h): each as the call with WCHARs of 32, which it makes. */
+#include "internal.h"
 
 /* Writes the character at this place, or where `to` is null nothing; answers how many units it has. */
 static int write_utf16(uint16_t *to, uint32_t point)

@@ -1,17 +1,6 @@
 /* SPDX-License-Identifier: MIT OR Apache-2.0 */
 /* ---- Objects that are waited for on behalf of callbacks: each by a thread of a pool of its own. */
-
-/* A wait for an object. It is a task of the pool of those that watch, and gone once it has ended. */
-struct watch {
-    struct task task;
-    struct task *told;     /* whose callbacks come of it */
-    HANDLE object;
-    HANDLE stop;           /* an event: set once it is stopped */
-    DWORD ms;
-    uint64_t moment;       /* to which it waits at the longest, or NEVER */
-    bool is_once, in_thread;
-    bool is_stopped;       /* `told` is no longer touched */
-};
+#include "internal.h"
 
 /* The object is not waited for any longer, under the latch: what is signaled from now on stays so. */
 static void drop_watch(struct task *told)
@@ -50,7 +39,7 @@ static bool tell_watched(struct watch *watch, uint32_t outcome)
 }
 
 /* How long it has yet to wait, in ms. */
-static DWORD ms_to(uint64_t moment)
+NTW_INTERNAL DWORD ms_to(uint64_t moment)
 {
     const uint64_t now = monotonic(), grain = MOMENTS_PER_SECOND / 1000;
     if (moment == NEVER)
@@ -224,7 +213,7 @@ PTP_WAIT CreateThreadpoolWait(PTP_WAIT_CALLBACK callback, PVOID context, PTP_CAL
 }
 
 /* The moment of the monotonic clock that such a time means: negative from now on, else in UTC. */
-static uint64_t moment_of_time(const FILETIME *time)
+NTW_INTERNAL uint64_t moment_of_time(const FILETIME *time)
 {
     const uint64_t due = (uint64_t)time->dwHighDateTime << 32 | time->dwLowDateTime, now = monotonic();
     if ((int64_t)due <= 0)

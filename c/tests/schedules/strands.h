@@ -5,6 +5,7 @@
 #define STRANDS_H
 
 #define _GNU_SOURCE
+#define NTWIN_ONE_UNIT /* (as ntwin.c has it) */
 #define CHECKS_WAITING
 #define LOOKS_AT_LOCK 2
 #define LOOKS_AT_WORD 3
