@@ -175,7 +175,8 @@ TellsSaid at number (Some entry) found GoesOn =
 abbrev pub Tells : At → ℕ → List (List ℕ) → Result TraceVerdict TraceFault → Type 0
 Tells at number [] found = found ≡ Ok (TraceVerdict.IsRun number)
 Tells at number (line ∷ lines) found =
-    (said : Option TraceEntry) × Says (words_of line) said × TellsSaid at (number + 1) said found (λ (after : At). Tells after (number + 1) lines found)
+    (said : Option TraceEntry) × Says (words_of line) said
+    × TellsSaid at (number + 1) said found (λ (after : At). Tells after (number + 1) lines found)
 
 -- the same, where memory may have been refused: then nothing is found
 abbrev pub IsTold : At → List (List ℕ) → Result TraceVerdict TraceFault → Type 0
