@@ -11,7 +11,7 @@ use nt_hangs::{
     Found, InputFault, Report, before_zero, lacks_memory, read_whole, say, show_found, tell,
 };
 use nt_script::RunFault;
-use nt_timeline::{Film, Outcome, Part};
+use nt_timeline::{Film, Outcome, Selection};
 use std::alloc::{AllocError, Global};
 use std::fs;
 use std::rt::Files;
@@ -40,7 +40,7 @@ fn report_of(
     file: &[u8],
     film: &Film,
     form: Form,
-    part: &Part<'_>,
+    part: &Selection<'_>,
 ) -> Result<Report, AllocError>
     ensures { IfOk result (λ report. report.code ≡ 0) }
 {
@@ -60,7 +60,7 @@ fn outcome_of(
     film: &Film,
     count: u64,
     form: Form,
-    part: &Part<'_>,
+    part: &Selection<'_>,
 ) -> Result<Outcome, AllocError>
     ensures { IfOk result IsTold }
 {
@@ -79,7 +79,7 @@ fn play(
     film: &mut Film,
     input: &[u8],
     form: Form,
-    part: &Part<'_>,
+    part: &Selection<'_>,
 ) -> Result<Outcome, RunFault>
     requires { seen_of film.old.watch ≡ unseen }
     ensures { IsOutcome (lines_of input.now) result }
@@ -103,7 +103,7 @@ pub fn drawing_on(
     file: &[u8],
     input: &[u8],
     form: Form,
-    part: &Part<'_>,
+    part: &Selection<'_>,
 ) -> Result<Outcome, RunFault>
     ensures { IsOutcome (lines_of (before_zero input.now)) result }
 {
@@ -138,7 +138,7 @@ fn draw_input<F: Files + AllocGlobal, E: Sink>(
     files: &F,
     file: &[u8],
     input: &[u8],
-    part: &Part<'_>,
+    part: &Selection<'_>,
     drawing: Drawing<'_>,
     strict: bool,
     errors: &mut E,
@@ -157,7 +157,7 @@ fn draw_input<F: Files + AllocGlobal, E: Sink>(
 pub fn draw_file<F: Files + AllocGlobal, E: Sink>(
     files: &F,
     path: &str,
-    part: &Part<'_>,
+    part: &Selection<'_>,
     drawing: Drawing<'_>,
     strict: bool,
     errors: &mut E,

@@ -5,7 +5,7 @@ use crate::page::page_of;
 use crate::trace::trace_of;
 use nt_picture::{Layout, left_of, picture_of};
 use nt_script::Session;
-use nt_timeline::{Film, Part, Words};
+use nt_timeline::{Film, Selection, Words};
 use std::alloc::{AllocError, Global};
 
 /// A part of a session in this form: as a trace, as a page, or else as a picture.
@@ -15,7 +15,7 @@ pub(crate) fn drawn(
     film: &Film,
     session: &Session,
     form: Form,
-    part: &Part<'_>,
+    part: &Selection<'_>,
 ) -> Result<Vec<u8>, AllocError> {
     let words = Words {
         session,

@@ -2,7 +2,7 @@
 
 use crate::page_parts::{LISTED, SCRIPT, STYLE, TOOLS};
 use nt_picture::{Layout, put_escaped};
-use nt_timeline::{Ended, Film, Kind, Step, Words, name_of};
+use nt_timeline::{EndOfWait, Film, Kind, Step, Words, name_of};
 use nt_wording::put_number;
 use std::alloc::{AllocError, Global};
 
@@ -22,7 +22,7 @@ fn answer_of(step: &Step) -> &[u8] {
 }
 
 /// Puts the waits that a step ended, each with its thread and its line.
-fn put_ends(alloc: Global, out: &mut Vec<u8>, ended: &[Ended]) -> Result<(), AllocError> {
+fn put_ends(alloc: Global, out: &mut Vec<u8>, ended: &[EndOfWait]) -> Result<(), AllocError> {
     out.extend_from_slice(b"<td>")?;
     for (place, end) in ended.iter().enumerate() {
         if place > 0 {
@@ -42,7 +42,7 @@ fn put_row(
     alloc: Global,
     out: &mut Vec<u8>,
     step: &Step,
-    ended: &[Ended],
+    ended: &[EndOfWait],
 ) -> Result<(), AllocError> {
     let open = format!(in alloc; "<tr tabindex=\"-1\" data-line=\"{}\">", step.line)?;
     out.extend_from_slice(open.as_bytes())?;

@@ -6,7 +6,7 @@
 
 use nt_lines::{MAX_DIGITS, number_of};
 use nt_picture::Layout;
-use nt_timeline::{Ended, Film, Kind, Step, Words, name_of};
+use nt_timeline::{EndOfWait, Film, Kind, Step, Words, name_of};
 use nt_wording::put_thread_title;
 use std::alloc::{AllocError, Global};
 
@@ -213,7 +213,7 @@ impl Trace {
         alloc: Global,
         began: &Step,
         step: &Step,
-        end: &Ended,
+        end: &EndOfWait,
         time: u64,
     ) -> Result<(), AllocError> {
         let how = name_of(alloc, end.status)?;

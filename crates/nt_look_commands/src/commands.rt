@@ -9,7 +9,7 @@ use nt_devices::{Counted, Sink};
 use nt_drawing::{Drawing, draw_file};
 use nt_hangs::{lacks_memory, say, why_file};
 use nt_orders::explore_file;
-use nt_timeline::{Part, timeline_file};
+use nt_timeline::{Selection, timeline_file};
 use std::io::{self, BufWriter, Print};
 use std::rt::Files;
 
@@ -39,7 +39,7 @@ fn print_why<R: Files + AllocGlobal + Print, E: Sink>(
 fn print_timeline<R: Files + AllocGlobal + Print, E: Sink>(
     rt: &R,
     path: &str,
-    part: &Part<'_>,
+    part: &Selection<'_>,
     strict: bool,
     errors: &mut E,
 ) -> u8
@@ -80,7 +80,7 @@ fn usage_for(command: Option<Command>) -> &'static [u8]
 fn make_timeline<R: Files + AllocGlobal + Print, E: Sink>(
     rt: &R,
     path: &str,
-    part: &Part<'_>,
+    part: &Selection<'_>,
     drawing: Option<Drawing<'_>>,
     strict: bool,
     errors: &mut E,

@@ -8,7 +8,7 @@ use crate::command::{Command, command_of};
 use crate::words::{are_lawful, file_in, value_in};
 use nt_drawing::{Drawing, Form};
 use nt_lines::{MAX_DIGITS, caller_of, number_of};
-use nt_timeline::Part;
+use nt_timeline::Selection;
 
 /// How many states may be met at the most.
 const MOST_STATES: u64 = 4_000_000_000;
@@ -28,7 +28,7 @@ pub enum Look<'a> {
     /// Write a part of the timeline of the script in this file: as text, or as a drawing into another file; strictly, likewise.
     Timeline {
         file: &'a str,
-        part: Part<'a>,
+        part: Selection<'a>,
         drawing: Option<Drawing<'a>>,
         strict: bool,
     },
@@ -171,7 +171,7 @@ fn timeline_in<'a>(strict: bool, file: &'a str, words: &'a [String]) -> Option<L
     match (lines_in(words), thread_in(words), drawing_in(words)) {
         (Some(lines), Some(thread), Some(drawing)) => {
             let object = value_in("--object", words);
-            let part = Part {
+            let part = Selection {
                 lines,
                 object,
                 thread,

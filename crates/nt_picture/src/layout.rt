@@ -3,7 +3,7 @@
 use crate::escape::width_of;
 use nt_core::Core;
 use nt_status::MAX_THREADS;
-use nt_timeline::{Ended, Kept, Kind, Part, Step, name_of};
+use nt_timeline::{EndOfWait, Kept, Kind, Selection, Step, name_of};
 use std::alloc::{AllocError, Global};
 
 /// The greatest number of threads, each of which has a place.
@@ -57,7 +57,7 @@ fn is_dull(step: &Step, next: Option<&Step>) -> bool {
 }
 
 /// How wide the name of a wait's end is, which is left out of one that took its first object.
-fn end_width(alloc: Global, end: &Ended) -> Result<u32, AllocError> {
+fn end_width(alloc: Global, end: &EndOfWait) -> Result<u32, AllocError> {
     if end.status.code() == 0 {
         return Ok(0);
     }
@@ -114,7 +114,7 @@ impl Reach {
     fn place_end(
         &self,
         alloc: Global,
-        end: &Ended,
+        end: &EndOfWait,
         began: u32,
         least: u32,
     ) -> Result<u32, AllocError> {
@@ -134,7 +134,7 @@ impl Reach {
     fn place_ends(
         &mut self,
         alloc: Global,
-        ended: &[Ended],
+        ended: &[EndOfWait],
         x: &[u32],
         least: u32,
     ) -> Result<u32, AllocError> {
@@ -162,7 +162,7 @@ impl Layout {
         alloc: Global,
         reach: &mut Reach,
         step: &Step,
-        ended: &[Ended],
+        ended: &[EndOfWait],
         is_shown: bool,
         last: u32,
     ) -> Result<u32, AllocError> {
@@ -198,7 +198,7 @@ impl Layout {
     pub fn of(
         alloc: Global,
         kept: &Kept,
-        part: &Part<'_>,
+        part: &Selection<'_>,
         core: &Core,
         left: u32,
     ) -> Result<Layout, AllocError> {

@@ -3,7 +3,7 @@
 use crate::escape::{begin_group, bytes_in, end_group, put_cut, put_text};
 use crate::layout::{LANE, Layout, TOP, at, below_of};
 use nt_status::Status;
-use nt_timeline::{Ended, Kept, Kind, Step, name_of};
+use nt_timeline::{EndOfWait, Kept, Kind, Step, name_of};
 use nt_wording::called_by;
 use std::alloc::{AllocError, Global};
 
@@ -152,7 +152,7 @@ fn put_end(
     layout: &Layout,
     step: &Step,
     x: u32,
-    end: &Ended,
+    end: &EndOfWait,
 ) -> Result<(), AllocError> {
     let (Some(y), Some(began)) = (layout.y(end.thread), kept.steps.get(end.began)) else {
         return Ok(());

@@ -4,7 +4,7 @@ use crate::escape::{put_cut, put_escaped, put_text, width_of};
 use crate::layout::{Layout, at};
 use crate::marks::put_raw;
 use nt_objects::{Armed, Object};
-use nt_timeline::{Change, Kept, Part, Words};
+use nt_timeline::{Kept, ObjectChange, Selection, Words};
 use nt_wording::{called_by, put_number, put_signed};
 use std::alloc::{AllocError, Global};
 
@@ -147,7 +147,13 @@ fn first_of(kept: &Kept, place: usize) -> Option<Object> {
 }
 
 /// Whether the name at this place is the first of its object, which has a row where a shown step changed it, or it is asked for.
-fn has_row(kept: &Kept, layout: &Layout, words: Words<'_>, part: &Part<'_>, place: usize) -> bool {
+fn has_row(
+    kept: &Kept,
+    layout: &Layout,
+    words: Words<'_>,
+    part: &Selection<'_>,
+    place: usize,
+) -> bool {
     let Some(number) = words.objects.get(place) else {
         return false;
     };
@@ -179,7 +185,7 @@ pub(crate) fn rows_of(
     kept: &Kept,
     layout: &Layout,
     words: Words<'_>,
-    part: &Part<'_>,
+    part: &Selection<'_>,
 ) -> Result<Vec<usize>, AllocError> {
     let mut rows = Vec::new(alloc);
     for place in 0..words.objects.len() {
@@ -264,7 +270,7 @@ pub(crate) fn put_row(
         base,
         kind,
     )?;
-    let mut last: Option<Change> = None;
+    let mut last: Option<ObjectChange> = None;
     for change in &kept.changes {
         if change.place == place {
             if let Some(last) = last {

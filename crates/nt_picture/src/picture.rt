@@ -8,7 +8,7 @@ use crate::objects::{ROW, put_row, rows_of};
 use crate::pending::{BULGE, put_pending};
 use crate::style::STYLE;
 use nt_hangs::verdict_of;
-use nt_timeline::{Film, Part, Words};
+use nt_timeline::{Film, Selection, Words};
 use nt_wording::{code_of, put_verdict};
 use std::alloc::{AllocError, Global};
 
@@ -142,7 +142,7 @@ pub fn picture_of(
     film: &Film,
     layout: &Layout,
     words: Words<'_>,
-    part: &Part<'_>,
+    part: &Selection<'_>,
 ) -> Result<Vec<u8>, AllocError> {
     let rows = rows_of(alloc, &film.kept, layout, words, part)?;
     let top = layout.end_of_lanes().saturating_add(34);

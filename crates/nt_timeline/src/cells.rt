@@ -1,7 +1,7 @@
 //! What stands in a thread's column beside a step.
 
 use crate::answers::name_of;
-use crate::steps::{Ended, Kind, Step};
+use crate::steps::{EndOfWait, Kind, Step};
 use nt_wording::put_number;
 use std::alloc::{AllocError, Global};
 
@@ -18,7 +18,7 @@ fn put_call(out: &mut Vec<u8>, step: &Step) -> Result<(), AllocError> {
 }
 
 /// Puts how a wait ended, and since which line it pended.
-fn put_end(alloc: Global, out: &mut Vec<u8>, end: &Ended) -> Result<(), AllocError> {
+fn put_end(alloc: Global, out: &mut Vec<u8>, end: &EndOfWait) -> Result<(), AllocError> {
     let name = name_of(alloc, end.status)?;
     out.extend_from_slice(&name)?;
     out.extend_from_slice(b" since ")?;
@@ -30,7 +30,7 @@ pub(crate) fn put_cell(
     alloc: Global,
     out: &mut Vec<u8>,
     step: &Step,
-    ended: &[Ended],
+    ended: &[EndOfWait],
     thread: u32,
     waits: bool,
 ) -> Result<(), AllocError> {

@@ -2,7 +2,7 @@
 
 use crate::answers::{answer_in, told};
 use crate::labels::{Words, put_label};
-use crate::steps::{Change, Ended, Kind, Step};
+use crate::steps::{EndOfWait, Kind, ObjectChange, Step};
 use crate::waiting::MOST_THREADS;
 use nt_core::Grant;
 use nt_lines::{caller_of, first_word, number_of, text_of};
@@ -15,11 +15,11 @@ use std::alloc::{AllocError, Global};
 pub struct Kept {
     /// Whether what a picture shows is kept too.
     is_drawn: bool,
-    pub changes: Vec<Change>,
+    pub changes: Vec<ObjectChange>,
     /// By the places of names, the objects as they were last seen.
     seen: Vec<Object>,
     pub steps: Vec<Step>,
-    pub ended: Vec<Ended>,
+    pub ended: Vec<EndOfWait>,
     /// By thread, the place of the step that began its pending wait.
     began: Vec<usize>,
     /// The number of the handle with the name that is asked for, once it has it.
@@ -108,7 +108,7 @@ impl Kept {
             Some(step) => (step.line, step.is_asked_for),
             None => (0, false),
         };
-        self.ended.push(Ended {
+        self.ended.push(EndOfWait {
             thread,
             status: grant.status,
             began,
@@ -175,7 +175,7 @@ impl Kept {
                 self.seen.push(object)?;
             }
         }
-        self.changes.push(Change {
+        self.changes.push(ObjectChange {
             place,
             step,
             object,

@@ -1,7 +1,7 @@
 //! What a part asks for that a run does not have, in words.
 
 use crate::film::Film;
-use crate::part::Part;
+use crate::part::Selection;
 use nt_faults::nearest_name;
 use nt_lines::caller_of;
 use nt_script::Session;
@@ -139,7 +139,7 @@ impl Film {
         &self,
         alloc: Global,
         count: u64,
-        part: &Part<'_>,
+        part: &Selection<'_>,
     ) -> Result<Vec<u8>, AllocError> {
         let mut out = Vec::new(alloc);
         if let Some(lines) = part.lines {

@@ -22,6 +22,6 @@ pub use answers::name_of;
 pub use film::Film;
 pub use kept::Kept;
 pub use labels::{Words, put_object};
-pub use part::Part;
-pub use steps::{Change, Ended, Kind, Step};
+pub use part::Selection;
+pub use steps::{EndOfWait, Kind, ObjectChange, Step};
 pub use timeline::{Outcome, timeline_file, timeline_on, timeline_over};

@@ -2,8 +2,8 @@
 
 use crate::cells::put_cell;
 use crate::kept::Kept;
-use crate::part::Part;
-use crate::steps::{Ended, Step};
+use crate::part::Selection;
+use crate::steps::{EndOfWait, Step};
 use crate::waiting::{MOST_THREADS, Waiting};
 use nt_wording::{put_number, put_thread_title};
 use std::alloc::{AllocError, Global};
@@ -38,7 +38,7 @@ impl Columns {
         alloc: Global,
         cell: &mut Vec<u8>,
         step: &Step,
-        ended: &[Ended],
+        ended: &[EndOfWait],
     ) -> Result<(), AllocError> {
         for thread in 0..MOST_THREADS as u32 {
             cell.clear();
@@ -61,7 +61,12 @@ impl Columns {
     }
 
     /// The columns of what is shown.
-    fn of(alloc: Global, kept: &Kept, part: &Part<'_>, told: &[u8]) -> Result<Columns, AllocError> {
+    fn of(
+        alloc: Global,
+        kept: &Kept,
+        part: &Selection<'_>,
+        told: &[u8],
+    ) -> Result<Columns, AllocError> {
         let mut columns = Columns {
             widths: Vec::from_elem(alloc, 0, MOST_THREADS)?,
         };
@@ -137,7 +142,7 @@ fn put_cells(
     out: &mut Vec<u8>,
     columns: &Columns,
     step: &Step,
-    ended: &[Ended],
+    ended: &[EndOfWait],
     waiting: &Waiting,
     fill: u8,
 ) -> Result<(), AllocError> {
@@ -160,7 +165,7 @@ fn put_row(
     out: &mut Vec<u8>,
     columns: &Columns,
     step: &Step,
-    ended: &[Ended],
+    ended: &[EndOfWait],
     waiting: &Waiting,
 ) -> Result<(), AllocError> {
     put_line(alloc, out, step.line)?;
@@ -206,7 +211,7 @@ pub(crate) fn put_rows(
     alloc: Global,
     out: &mut Vec<u8>,
     kept: &Kept,
-    part: &Part<'_>,
+    part: &Selection<'_>,
     told: &[u8],
 ) -> Result<(), AllocError> {
     let columns = Columns::of(alloc, kept, part, told)?;

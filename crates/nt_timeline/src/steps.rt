@@ -39,7 +39,7 @@ pub struct Step {
 
 /// An object that a step left otherwise than it was.
 #[derive(Clone, Copy, Debug)]
-pub struct Change {
+pub struct ObjectChange {
     /// The place of its name.
     pub place: usize,
     /// The place of the step.
@@ -49,7 +49,7 @@ pub struct Change {
 
 /// The end of a wait that pended.
 #[derive(Drop)]
-pub struct Ended {
+pub struct EndOfWait {
     pub thread: u32,
     pub status: Status,
     /// The place of the step that began the wait, and its line.
@@ -61,7 +61,7 @@ pub struct Ended {
 
 impl Step {
     /// The waits that the step ended.
-    pub fn ended<'a>(&self, all: &'a [Ended]) -> &'a [Ended] {
+    pub fn ended<'a>(&self, all: &'a [EndOfWait]) -> &'a [EndOfWait] {
         all.get(self.ended.0..self.ended.1).unwrap_or(&[])
     }
 }

@@ -5,7 +5,7 @@ ghost use Rattle.nt_hangs.specs.Watching.{before_zero, seen_of, unseen};
 ghost use Rattle.nt_timeline.specs.Ending.{IsOutcome, IsTold, TellsTimeline, TimelineEnds, TimelineTold};
 
 use crate::film::Film;
-use crate::part::Part;
+use crate::part::Selection;
 use crate::rows::put_rows;
 use nt_devices::{Counted, Sink, Source};
 use nt_hangs::{
@@ -33,7 +33,7 @@ fn text_of(
     count: u64,
     film: &Film,
     session: &Session,
-    part: &Part<'_>,
+    part: &Selection<'_>,
 ) -> Result<Report, AllocError>
     ensures { IfOk result (λ report. report.code ≡ 0) }
 {
@@ -54,7 +54,7 @@ impl Film {
         alloc: Global,
         file: &[u8],
         count: u64,
-        part: &Part<'_>,
+        part: &Selection<'_>,
     ) -> Result<Report, AllocError>
         ensures { IfOk result (λ report. report.code ≡ 0) }
     {
@@ -83,7 +83,7 @@ impl Film {
         alloc: Global,
         file: &[u8],
         count: u64,
-        part: &Part<'_>,
+        part: &Selection<'_>,
     ) -> Result<Outcome, AllocError>
         ensures { IfOk result IsTold }
     {
@@ -101,7 +101,7 @@ impl Film {
         alloc: Global,
         file: &[u8],
         input: &[u8],
-        part: &Part<'_>,
+        part: &Selection<'_>,
     ) -> Result<Outcome, RunFault>
         requires { seen_of self.old.watch ≡ unseen }
         ensures { IsOutcome (lines_of input.now) result }
@@ -125,7 +125,7 @@ pub fn timeline_on(
     alloc: Global,
     file: &[u8],
     input: &[u8],
-    part: &Part<'_>,
+    part: &Selection<'_>,
 ) -> Result<Outcome, RunFault>
     ensures { IsOutcome (lines_of (before_zero input.now)) result }
 {
@@ -144,7 +144,7 @@ fn timeline_input<W: Sink, E: Sink>(
     alloc: Global,
     file: &[u8],
     input: &[u8],
-    part: &Part<'_>,
+    part: &Selection<'_>,
     strict: bool,
     writer: &mut W,
     errors: &mut E,
@@ -165,7 +165,7 @@ fn timeline_input<W: Sink, E: Sink>(
 pub fn timeline_over<R: Source, W: Sink, E: Sink>(
     alloc: Global,
     file: &[u8],
-    part: &Part<'_>,
+    part: &Selection<'_>,
     strict: bool,
     reader: &mut R,
     writer: &mut W,
@@ -185,7 +185,7 @@ pub fn timeline_over<R: Source, W: Sink, E: Sink>(
 pub fn timeline_file<F: Files + AllocGlobal, W: Sink, E: Sink>(
     files: &F,
     path: &str,
-    part: &Part<'_>,
+    part: &Selection<'_>,
     strict: bool,
     writer: &mut W,
     errors: &mut E,

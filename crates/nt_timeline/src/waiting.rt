@@ -1,6 +1,6 @@
 //! Who waits, step by step.
 
-use crate::steps::{Ended, Kind, Step};
+use crate::steps::{EndOfWait, Kind, Step};
 use nt_status::MAX_THREADS;
 use std::alloc::{AllocError, Global};
 
@@ -36,7 +36,7 @@ impl Waiting {
     }
 
     /// Goes past a step, which ended these waits.
-    pub(crate) fn pass(&mut self, step: &Step, ended: &[Ended]) {
+    pub(crate) fn pass(&mut self, step: &Step, ended: &[EndOfWait]) {
         if let (Some(thread), Kind::Pends) = (step.who, step.kind) {
             self.set(thread, step.line);
         }
