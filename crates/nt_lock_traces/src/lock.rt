@@ -1,5 +1,9 @@
 //! The words of a trace of the lock that favours a thread: the same as those of the protocol.
 
+ghost use Rattle.std.specs.Prelude.{◌≡◌};
+ghost use Rattle.nt_protocols.specs.Lock as Lock;
+ghost use Rattle.nt_lock_traces.specs.LockTrace.{frame_of, place_of};
+
 use crate::lock_kinds::LockKind;
 
 /// What the lock says.
@@ -54,6 +58,21 @@ pub enum Frame {
     AtPay,
     AtSleep,
     AtWake,
+}
+
+/// Where a thread is that a handler has interrupted.
+pub(crate) fn frame_place(frame: Frame) -> LockPlace
+    ensures { place_of result ≡ Lock.frame_place (frame_of frame) }
+{
+    match frame {
+        Frame::AtStore => LockPlace::ToStore,
+        Frame::AtReload => LockPlace::ToReload,
+        Frame::AtWakeRevoker => LockPlace::ToWakeRevoker,
+        Frame::AtMark => LockPlace::ToMark,
+        Frame::AtPay => LockPlace::ToPay,
+        Frame::AtSleep => LockPlace::ToSleep,
+        Frame::AtWake => LockPlace::ToWake,
+    }
 }
 
 /// What there is of one thread. A handler of signals may have interrupted it, and no other that handler.

@@ -6,7 +6,7 @@ ghost use Rattle.nt_protocols.specs.Threads.{put};
 ghost use Rattle.nt_lock_traces.specs.LockMoves as Moves;
 ghost use Rattle.nt_lock_traces.specs.LockTrace.{arrives, frame_of, state_of, seat_of, place_of, lock_of, under_of, Reads, Holds};
 
-use crate::lock::{Buffer, Frame, LockPlace, LockWord, Seat};
+use crate::lock::{Buffer, Frame, LockPlace, LockWord, Seat, frame_place};
 use crate::lock_test::LockTest;
 
 /// The lock and its threads, as the events that were read have led to them.
@@ -14,21 +14,6 @@ use crate::lock_test::LockTest;
 pub struct LockRun {
     pub(crate) lock: LockWord,
     pub(crate) seats: Vec<Seat>,
-}
-
-/// Where a thread is that a handler has interrupted.
-fn frame_place(frame: Frame) -> LockPlace
-    ensures { place_of result ≡ Lock.frame_place (frame_of frame) }
-{
-    match frame {
-        Frame::AtStore => LockPlace::ToStore,
-        Frame::AtReload => LockPlace::ToReload,
-        Frame::AtWakeRevoker => LockPlace::ToWakeRevoker,
-        Frame::AtMark => LockPlace::ToMark,
-        Frame::AtPay => LockPlace::ToPay,
-        Frame::AtSleep => LockPlace::ToSleep,
-        Frame::AtWake => LockPlace::ToWake,
-    }
 }
 
 impl LockRun {
