@@ -5,3 +5,6 @@ pub mod Fewer
 pub mod Waits
 pub mod Beside
 pub mod Waiting
+pub mod Pieces
+pub mod Apcs
+pub mod Timers

@@ -51,7 +51,7 @@ wait_step s new u wait r gs only quiet step =
       answers = step.answers ∙ ap {B = Reply × State} (λ (x : State). begun x u (asked_wait x.now wait) (timeout_of wait)) two.1;
     }
 
-none_changed : (os : List Object) → AreRising (IsChanged os os) []
+pub none_changed : (os : List Object) → AreRising (IsChanged os os) []
 none_changed os = record { rising = tt; exactly = λ x. (λ m. absurd (contains_none x m), λ changed. absurd (changed.1 refl)) }
 
 make_wait : (s : State) (u : ℕ) (wait : WaitCall) → only_waits wait ≡ true → IsQuiet s →
@@ -80,7 +80,7 @@ unready_taken (o ∷ os) t zero u (suc k) e = e
 unready_taken (o ∷ os) t (suc h) u zero e = e
 unready_taken (o ∷ os) t (suc h) u (suc k) e = unready_taken os t h u k e
 
-unready_each : (os : List Object) (t : ℕ) (hs : List ℕ) (u k : ℕ) → is_ready os u k ≡ false → is_ready (take_each os t hs) u k ≡ false
+pub unready_each : (os : List Object) (t : ℕ) (hs : List ℕ) (u k : ℕ) → is_ready os u k ≡ false → is_ready (take_each os t hs) u k ≡ false
 unready_each os t [] u k e = e
 unready_each os t (h ∷ hs) u k e = unready_each (take_at os t h) t hs u k (unready_taken os t h u k e)
 

@@ -44,7 +44,7 @@ place_agree p new old (h ∷ hs) agree =
     ap (λ o. cond (not (p o)) (1 + position_or_len (λ x. p (object_at new x)) hs) 0) (agree h (contains_first h hs h refl))
     ∙ ap (λ n. cond (not (p (object_at old h))) (1 + n) 0) (place_agree p new old hs (λ x m. agree x (contains_later h hs x m)))
 
-fits_agree : (new old : List Object) (t : ℕ) (w : Wait) → ((h : ℕ) → Contains w.objects h → object_at new h ≡ object_at old h) → fits new t w ≡ fits old t w
+pub fits_agree : (new old : List Object) (t : ℕ) (w : Wait) → ((h : ℕ) → Contains w.objects h → object_at new h ≡ object_at old h) → fits new t w ≡ fits old t w
 fits_agree new old t w agree =
     ap (λ b. if w.all then not (is_sleep w) && b else list_any (is_ready new t) w.objects) (all_agree (λ o. signaled o t) new old w.objects agree)
     ∙ ap (λ b. if w.all then not (is_sleep w) && list_all (is_ready old t) w.objects else b) (any_agree (λ o. signaled o t) new old w.objects agree)
@@ -64,10 +64,10 @@ pick_in p (h ∷ hs) some = pick_go p h hs (p h) refl (pick_in p hs) some
 
 -- ---- what is taken
 
-abbrev picked : List Object → ℕ → Wait → List ℕ
+abbrev pub picked : List Object → ℕ → Wait → List ℕ
 picked os t w = if w.all then w.objects else slice_index w.objects (least os t w) ∷ []
 
-takes_is : (os : List Object) (t : ℕ) (w : Wait) → objects_taken os t w ≡ take_each os t (picked os t w)
+pub takes_is : (os : List Object) (t : ℕ) (w : Wait) → objects_taken os t w ≡ take_each os t (picked os t w)
 takes_is os t w = go w.all
   where
     go : (all : Bool) → (if all then take_each os t w.objects else take_at os t (slice_index w.objects (least os t w))) ≡ take_each os t (if all then w.objects else slice_index w.objects (least os t w) ∷ [])
@@ -85,21 +85,21 @@ one_of i h m = go (contains_cases i [] h m)
     go (inr n) = absurd (contains_none h n)
 
 -- all that is taken is named
-picked_named : (os : List Object) (t : ℕ) (w : Wait) → fits os t w ≡ true → (h : ℕ) → Contains (picked os t w) h → Contains w.objects h
+pub picked_named : (os : List Object) (t : ℕ) (w : Wait) → fits os t w ≡ true → (h : ℕ) → Contains (picked os t w) h → Contains w.objects h
 picked_named os t w fit h = go w.all refl
   where
     go : (all : Bool) → w.all ≡ all → Contains (if all then w.objects else slice_index w.objects (least os t w) ∷ []) h → Contains w.objects h
     go true is m = m
     go false is m = subst (λ (i : ℕ). Contains w.objects i) (one_of (slice_index w.objects (least os t w)) h m) (pick_in (is_ready os t) w.objects (fits_any os t w is fit))
 
-picked_agree : (new old : List Object) (t : ℕ) (w : Wait) → ((h : ℕ) → Contains w.objects h → object_at new h ≡ object_at old h) → picked new t w ≡ picked old t w
+pub picked_agree : (new old : List Object) (t : ℕ) (w : Wait) → ((h : ℕ) → Contains w.objects h → object_at new h ≡ object_at old h) → picked new t w ≡ picked old t w
 picked_agree new old t w agree = go w.all
   where
     go : (all : Bool) → (if all then w.objects else slice_index w.objects (least new t w) ∷ []) ≡ (if all then w.objects else slice_index w.objects (least old t w) ∷ [])
     go true = refl
     go false = ap (λ n. slice_index w.objects n ∷ []) (place_agree (λ o. signaled o t) new old w.objects agree)
 
-status_agree : (new old : List Object) (t : ℕ) (w : Wait) → ((h : ℕ) → Contains w.objects h → object_at new h ≡ object_at old h) → fits old t w ≡ true → status new t w ≡ status old t w
+pub status_agree : (new old : List Object) (t : ℕ) (w : Wait) → ((h : ℕ) → Contains w.objects h → object_at new h ≡ object_at old h) → fits old t w ≡ true → status new t w ≡ status old t w
 status_agree new old t w agree fit = go w.all refl
   where
     go : (all : Bool) → w.all ≡ all →
@@ -110,20 +110,20 @@ status_agree new old t w agree fit = go w.all refl
         ap (λ n. status_at (is_abandoned_at new (slice_index w.objects n)) n) (place_agree (λ o. signaled o t) new old w.objects agree)
         ∙ ap (λ o. status_at (is_abandoned o) (least old t w)) (agree (slice_index w.objects (least old t w)) (pick_in (is_ready old t) w.objects (fits_any old t w is fit)))
 
-none_equal : (y : ℕ) (xs : List ℕ) → ((x : ℕ) → Contains xs x → x ≢ y) → list_any (λ n. n == y) xs ≡ false
+pub none_equal : (y : ℕ) (xs : List ℕ) → ((x : ℕ) → Contains xs x → x ≢ y) → list_any (λ n. n == y) xs ≡ false
 none_equal y [] differ = refl
 none_equal y (x ∷ xs) differ =
     ap (λ b. b || list_any (λ n. n == y) xs) (same_no x y (differ x (contains_first x xs x refl)))
     ∙ none_equal y xs (λ z m. differ z (contains_later x xs z m))
 
-each_comm : (os : List Object) (t u : ℕ) (xs ys : List ℕ) → ((x y : ℕ) → Contains xs x → Contains ys y → x ≢ y) → take_each (take_each os t xs) u ys ≡ take_each (take_each os u ys) t xs
+pub each_comm : (os : List Object) (t u : ℕ) (xs ys : List ℕ) → ((x y : ℕ) → Contains xs x → Contains ys y → x ≢ y) → take_each (take_each os t xs) u ys ≡ take_each (take_each os u ys) t xs
 each_comm os t u xs [] differ = refl
 each_comm os t u xs (y ∷ ys) differ =
     ap (λ (o : List Object). take_each o u ys) (sym (take_all os y (λ o. taken o u) t xs (none_equal y xs (λ x m. differ x y m (contains_first y ys y refl)))))
     ∙ each_comm (take_at os u y) t u xs ys (λ x z m n. differ x z m (contains_later y ys z n))
 
 -- an object that is named is found to be
-named_is : (x : ℕ) (hs : List ℕ) → list_any (λ n. n == x) hs ≡ false → Contains hs x → ⊥
+pub named_is : (x : ℕ) (hs : List ℕ) → list_any (λ n. n == x) hs ≡ false → Contains hs x → ⊥
 named_is x [] free m = contains_none x m
 named_is x (h ∷ hs) free m = go (neither (h == x) (list_any (λ n. n == x) hs) free) (contains_cases h hs x m) (named_is x hs)
   where
@@ -131,7 +131,7 @@ named_is x (h ∷ hs) free m = go (neither (h == x) (list_any (λ n. n == x) hs)
     go parts (inl e) rest = unequal h x parts.0 e
     go parts (inr n) rest = rest parts.1 n
 
-found_is : (x : ℕ) (hs : List ℕ) → list_any (λ n. n == x) hs ≡ true → Contains hs x
+pub found_is : (x : ℕ) (hs : List ℕ) → list_any (λ n. n == x) hs ≡ true → Contains hs x
 found_is x [] some = (cc)
 found_is x (h ∷ hs) some = go (h == x) refl (found_is x hs)
   where

@@ -107,7 +107,7 @@ granted_other s k g t w same = ap (λ (os : List Object). record (wait_granted s
 free_after : (s : State) (k t : ℕ) (w : Wait) → IsUnawaited s k → IsUnawaited (wait_granted s t w) k
 free_after s k t w free u x is = free u x (get_removed s.waits t u x is).1
 
-find_same : (p q : ℕ → Bool) (xs : List ℕ) → ((x : ℕ) → p x ≡ q x) → find p xs ≡ find q xs
+pub find_same : (p q : ℕ → Bool) (xs : List ℕ) → ((x : ℕ) → p x ≡ q x) → find p xs ≡ find q xs
 find_same p q [] same = refl
 find_same p q (x ∷ xs) same = ap (λ b. if b then Some x else find p xs) (same x) ∙ ap (λ o. if q x then Some x else o) (find_same p q xs same)
 

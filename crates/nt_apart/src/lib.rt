@@ -12,6 +12,8 @@
 //! | `waits_begin_in_either_order` | two waits that name no object in common, whatever comes of each |
 //! | `waits_begin_beside_changes` | a wait, and the change of an object that it does not name |
 //! | `waits_commute_with_changes` | the same as steps, with all that follows from a call |
+//! | `apcs_to_two_threads_commute` | two APCs, queued to two threads, each of which may end a wait |
+//! | `two_timers_commute` | two timers that are set for later moments or cancelled |
 //! | `fewer_lanes_are_enough` | a search that leaves lanes out meets a shortest hang, if the lanes that it tries are enough |
 //!
 //! A law is the contract of a function that takes nothing and does nothing, as in `nt_laws`.
@@ -22,6 +24,7 @@ mod steps;
 
 pub use lanes::fewer_lanes_are_enough;
 pub use steps::{
-    calls_on_two_objects_commute, changes_of_two_objects_commute, waits_begin_beside_changes,
-    waits_begin_in_either_order, waits_commute_with_changes, waking_commutes,
+    apcs_to_two_threads_commute, calls_on_two_objects_commute, changes_of_two_objects_commute,
+    two_timers_commute, waits_begin_beside_changes, waits_begin_in_either_order,
+    waits_commute_with_changes, waking_commutes,
 };

@@ -1,5 +1,7 @@
 //! Steps of two threads that commute.
 ghost use Rattle.nt_apart.specs.Apart.{ChangesOfTwoObjectsCommute, CallsOnTwoObjectsCommute, WakingCommutes, WaitsBeginInEitherOrder, WaitsBeginBesideChanges, WaitsCommuteWithChanges};
+ghost use Rattle.nt_apart.specs.Apcs.{ApcsToTwoThreadsCommute};
+ghost use Rattle.nt_apart.specs.Timers.{TwoTimersCommute};
 
 /// Two acts that change one object each, not the same, that no pending wait names, may be made in either order: the replies are the same, no
 /// wait ends, and the state after both is the same.
@@ -32,4 +34,14 @@ pub fn waits_begin_beside_changes()
 /// The same as steps: a wait, and an act on an object that neither it nor any pending wait names, may be made in either order.
 pub fn waits_commute_with_changes()
     ensures { WaitsCommuteWithChanges }
+{}
+
+/// APCs are queued to two threads in either order, whether or not each ends a wait of its thread.
+pub fn apcs_to_two_threads_commute()
+    ensures { ApcsToTwoThreadsCommute }
+{}
+
+/// Two timers may be set for later moments or cancelled in either order, whether or not waits for them pend or their APCs are queued.
+pub fn two_timers_commute()
+    ensures { TwoTimersCommute }
 {}
