@@ -6,5 +6,7 @@ pub mod Waits
 pub mod Beside
 pub mod Waiting
 pub mod Pieces
+pub mod Reach
+pub mod Signals
 pub mod Apcs
 pub mod Timers

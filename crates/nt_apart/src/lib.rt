@@ -9,6 +9,7 @@
 //! | `changes_of_two_objects_commute` | a set, a reset, a release or an unlock, each of another object, for which no wait pends |
 //! | `calls_on_two_objects_commute` | the same of whole calls, by handles and rights, with the objects that end |
 //! | `waking_commutes` | one of the two may end any number of waits |
+//! | `signals_commute` | each of the two may end any number of waits, a pulse too, if no object is within reach of both |
 //! | `waits_begin_in_either_order` | two waits that name no object in common, whatever comes of each |
 //! | `waits_begin_beside_changes` | a wait, and the change of an object that it does not name |
 //! | `waits_commute_with_changes` | the same as steps, with all that follows from a call |
@@ -25,6 +26,6 @@ mod steps;
 pub use lanes::fewer_lanes_are_enough;
 pub use steps::{
     apcs_to_two_threads_commute, calls_on_two_objects_commute, changes_of_two_objects_commute,
-    two_timers_commute, waits_begin_beside_changes, waits_begin_in_either_order,
+    signals_commute, two_timers_commute, waits_begin_beside_changes, waits_begin_in_either_order,
     waits_commute_with_changes, waking_commutes,
 };

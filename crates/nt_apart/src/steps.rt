@@ -1,5 +1,6 @@
 //! Steps of two threads that commute.
 ghost use Rattle.nt_apart.specs.Apart.{ChangesOfTwoObjectsCommute, CallsOnTwoObjectsCommute, WakingCommutes, WaitsBeginInEitherOrder, WaitsBeginBesideChanges, WaitsCommuteWithChanges};
+ghost use Rattle.nt_apart.specs.Reach.{SignalsCommute};
 ghost use Rattle.nt_apart.specs.Apcs.{ApcsToTwoThreadsCommute};
 ghost use Rattle.nt_apart.specs.Timers.{TwoTimersCommute};
 
@@ -18,6 +19,12 @@ pub fn calls_on_two_objects_commute()
 /// either order, and each ends the same waits.
 pub fn waking_commutes()
     ensures { WakingCommutes }
+{}
+
+/// Two acts (a set, a reset, a pulse, a release, an unlock) may each end waits, as many as there are, if no object is within reach of both: the
+/// one that is signaled, and what else the waits for it name. They may be made in either order, and each ends the same waits in the same order.
+pub fn signals_commute()
+    ensures { SignalsCommute }
 {}
 
 /// Waits of two threads that name no object in common begin in either order: each is over at once or pends as it would alone, with the same
