@@ -55,7 +55,7 @@ over_other s [] may v none = refl
 over_other s (t ∷ ts) may v none =
     over_other (wait_over s t may) ts may v (λ m. none (contains_later t ts v m)) ∙ get_other s.waits t v (λ e. none (contains_first t ts v (sym e)))
 
-same_objects : (s : State) (ts : List ℕ) (may : Bool) → (waits_over s ts may).objects ≡ s.objects
+pub same_objects : (s : State) (ts : List ℕ) (may : Bool) → (waits_over s ts may).objects ≡ s.objects
 same_objects s [] may = refl
 same_objects s (t ∷ ts) may = same_objects (wait_over s t may) ts may
 

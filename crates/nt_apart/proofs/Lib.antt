@@ -9,4 +9,5 @@ pub mod Pieces
 pub mod Reach
 pub mod Signals
 pub mod Apcs
+pub mod ApcsBeside
 pub mod Timers

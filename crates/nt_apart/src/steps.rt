@@ -2,6 +2,7 @@
 ghost use Rattle.nt_apart.specs.Apart.{ChangesOfTwoObjectsCommute, CallsOnTwoObjectsCommute, WakingCommutes, WaitsBeginInEitherOrder, WaitsBeginBesideChanges, WaitsCommuteWithChanges};
 ghost use Rattle.nt_apart.specs.Reach.{SignalsCommute};
 ghost use Rattle.nt_apart.specs.Apcs.{ApcsToTwoThreadsCommute};
+ghost use Rattle.nt_apart.specs.ApcsBeside.{SignalsCommuteWithApcs, ApcsCommuteWithSignals};
 ghost use Rattle.nt_apart.specs.Timers.{TwoTimersCommute};
 
 /// Two acts that change one object each, not the same, that no pending wait names, may be made in either order: the replies are the same, no
@@ -46,6 +47,16 @@ pub fn waits_commute_with_changes()
 /// APCs are queued to two threads in either order, whether or not each ends a wait of its thread.
 pub fn apcs_to_two_threads_commute()
     ensures { ApcsToTwoThreadsCommute }
+{}
+
+/// An act that may end waits of other threads, and then an APC to a thread that does not wait for its object, may be made in either order.
+pub fn signals_commute_with_apcs()
+    ensures { SignalsCommuteWithApcs }
+{}
+
+/// The same where the APC is queued first.
+pub fn apcs_commute_with_signals()
+    ensures { ApcsCommuteWithSignals }
 {}
 
 /// Two timers may be set for later moments or cancelled in either order, whether or not waits for them pend or their APCs are queued.

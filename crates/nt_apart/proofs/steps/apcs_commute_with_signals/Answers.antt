@@ -1,0 +1,5 @@
+use Rattle.nt_apart.proofs.ApcsBeside.{apc_and_signal}
+use Rattle.nt_apart.proofs.steps.apcs_commute_with_signals.Goals as goal
+
+pub returns : goal.returns
+returns c = λ s mid new t u b a rb ra gb ga two. apc_and_signal s mid new t u b a rb ra gb ga two
