@@ -11,3 +11,4 @@ pub mod Signals
 pub mod Apcs
 pub mod ApcsBeside
 pub mod Timers
+pub mod TimersBeside

@@ -32,6 +32,10 @@ signaled_one _ = 0
 abbrev pub IsInReach : State → ℕ → ℕ → Type 0
 IsInReach s h o = (o ≡ h) ⊎ ((t : ℕ) × (w : Wait) × (get s.waits t ≡ Some w) × (wait_names w h ≡ true) × (wait_names w o ≡ true))
 
+-- o is not within reach of h
+abbrev pub IsOutOfReach : State → ℕ → ℕ → Type 0
+IsOutOfReach s h o = IsInReach s h o → ⊥
+
 -- no object is within reach of both
 abbrev pub ReachNothingInCommon : State → ℕ → ℕ → Type 0
 ReachNothingInCommon s h k = (o : ℕ) → IsInReach s h o → IsInReach s k o → ⊥

@@ -16,6 +16,7 @@
 //! | `apcs_to_two_threads_commute` | two APCs, queued to two threads, each of which may end a wait |
 //! | `signals_commute_with_apcs`, `apcs_commute_with_signals` | an act that may end waits, and an APC to a thread that does not wait for its object |
 //! | `two_timers_commute` | two timers that are set for later moments or cancelled |
+//! | `signals_commute_with_timers`, `timers_commute_with_signals` | an act that may end waits, and a timer that is set for later or cancelled |
 //! | `fewer_lanes_are_enough` | a search that leaves lanes out meets a shortest hang, if the lanes that it tries are enough |
 //!
 //! A law is the contract of a function that takes nothing and does nothing, as in `nt_laws`.
@@ -27,7 +28,8 @@ mod steps;
 pub use lanes::fewer_lanes_are_enough;
 pub use steps::{
     apcs_commute_with_signals, apcs_to_two_threads_commute, calls_on_two_objects_commute,
-    changes_of_two_objects_commute, signals_commute, signals_commute_with_apcs, two_timers_commute,
+    changes_of_two_objects_commute, signals_commute, signals_commute_with_apcs,
+    signals_commute_with_timers, timers_commute_with_signals, two_timers_commute,
     waits_begin_beside_changes, waits_begin_in_either_order, waits_commute_with_changes,
     waking_commutes,
 };

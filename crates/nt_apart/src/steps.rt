@@ -4,6 +4,7 @@ ghost use Rattle.nt_apart.specs.Reach.{SignalsCommute};
 ghost use Rattle.nt_apart.specs.Apcs.{ApcsToTwoThreadsCommute};
 ghost use Rattle.nt_apart.specs.ApcsBeside.{SignalsCommuteWithApcs, ApcsCommuteWithSignals};
 ghost use Rattle.nt_apart.specs.Timers.{TwoTimersCommute};
+ghost use Rattle.nt_apart.specs.TimersBeside.{SignalsCommuteWithTimers, TimersCommuteWithSignals};
 
 /// Two acts that change one object each, not the same, that no pending wait names, may be made in either order: the replies are the same, no
 /// wait ends, and the state after both is the same.
@@ -62,4 +63,15 @@ pub fn apcs_commute_with_signals()
 /// Two timers may be set for later moments or cancelled in either order, whether or not waits for them pend or their APCs are queued.
 pub fn two_timers_commute()
     ensures { TwoTimersCommute }
+{}
+
+/// An act that may end waits, and then a timer that is set for later or cancelled and is not within reach of the act's object, may be made in
+/// either order.
+pub fn signals_commute_with_timers()
+    ensures { SignalsCommuteWithTimers }
+{}
+
+/// The same where the timer is set or cancelled first.
+pub fn timers_commute_with_signals()
+    ensures { TimersCommuteWithSignals }
 {}
