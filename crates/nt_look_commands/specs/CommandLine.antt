@@ -50,7 +50,7 @@ are_lawful_options command (word ∷ value ∷ others) =
 pub data LookAsked : Type 0 where
   AskedWhy : (file : List ℕ) → (at : Option ℕ) → (strict : Bool) → LookAsked
   AskedTimeline : (file : List ℕ) → (lines : Option (ℕ × ℕ)) → (object : Option (List ℕ)) → (thread : Option ℕ) → (drawing : Option (Form × List ℕ)) → (strict : Bool) → LookAsked
-  AskedExplore : (file : List ℕ) → (most : ℕ) → LookAsked
+  AskedExplore : (file : List ℕ) → (most : ℕ) → (script : Option (List ℕ)) → LookAsked
 
 -- the form of a drawing, and the file
 abbrev pub drawing_asked : Drawing → Form × List ℕ
@@ -60,7 +60,7 @@ abbrev pub look_asked : Look → LookAsked
 look_asked (look.Why file at strict) = AskedWhy file.now at strict
 look_asked (look.Timeline file part drawing strict) =
     AskedTimeline file.now part.lines (option_copied part.object) part.thread (option_map drawing_asked drawing) strict
-look_asked (look.Explore file most) = AskedExplore file.now most
+look_asked (look.Explore file most script) = AskedExplore file.now most (option_copied script)
 
 -- the number of a line, from 1 on
 unfoldable pub line_number_in : List ℕ → Option ℕ
@@ -127,7 +127,7 @@ abbrev pub most_in : List (List ℕ) → Option ℕ
 most_in words = most_told (option_value_in (codes "--most") words)
 
 abbrev pub explore_in : List ℕ → List (List ℕ) → Option LookAsked
-explore_in file words = option_map (AskedExplore file) (most_in words)
+explore_in file words = option_map (λ most. AskedExplore file most (option_value_in (codes "--script") words)) (most_in words)
 
 -- what the command is to do with the file
 abbrev pub on_file : Command → Bool → List ℕ → List (List ℕ) → Option LookAsked

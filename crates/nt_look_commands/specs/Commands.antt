@@ -20,7 +20,7 @@ is_drawing option = bytes_eq option (codes "--svg") || bytes_eq option (codes "-
 abbrev pub has_option : Command → List ℕ → Bool
 has_option Why option = bytes_eq option (codes "--at")
 has_option Timeline option = bytes_eq option (codes "--lines") || bytes_eq option (codes "--object") || bytes_eq option (codes "--thread") || is_drawing option
-has_option Explore option = bytes_eq option (codes "--most")
+has_option Explore option = bytes_eq option (codes "--most") || bytes_eq option (codes "--script")
 
 -- whether the command can be strict
 abbrev pub can_be_strict : Command → Bool
@@ -32,7 +32,7 @@ can_be_strict Explore = false
 abbrev pub usage_of : Command → List ℕ
 usage_of Why = codes "ntlook: usage: ntlook why [--strict] FILE [--at LINE]\n"
 usage_of Timeline = codes "ntlook: usage: ntlook timeline [--strict] FILE [--lines A..B] [--object NAME] [--thread tN] [--svg OUT | --html OUT | --trace OUT]\n"
-usage_of Explore = codes "ntlook: usage: ntlook explore FILE [--most STATES]   (1 to 4000000000; 1000000 if left out)\n"
+usage_of Explore = codes "ntlook: usage: ntlook explore FILE [--script OUT] [--most STATES]   (1 to 4000000000; 1000000 if left out)\n"
 
 -- the same of all commands
 abbrev pub look_usage : List ℕ

@@ -1,5 +1,5 @@
 -- How the program `ntlook` ends.
-use Rattle.std.specs.Prelude.{◌≡◌, ◌⊎◌, ℕ, Bool, List, Option, None, Some, Result, Ok, Err}
+use Rattle.std.specs.Prelude.{◌≡◌, ◌⊎◌, ℕ, Bool, List, Option, None, Some, is_some, Result, Ok, Err}
 use Rattle.nt_devices.specs.Device.{Says, Writing}
 use Rattle.nt_hangs.specs.Ending.{FileTold, SaysMemory}
 use Rattle.nt_drawing.specs.declared.draw.Form.{Form}
@@ -27,11 +27,11 @@ abbrev pub MakesTimeline : Option (Form × List ℕ) → Bool → (errors errors
 MakesTimeline None strict errors errors' status = PrintTimeline strict errors errors' status
 MakesTimeline (Some drawing) strict errors errors' status = DrawingEnds strict errors errors' status
 
--- It is said that memory ran out; or it was told of the orders of a file, to some writer.
-abbrev pub PrintOrders : (most : ℕ) → (errors errors' : Writing) → (status : ℕ) → Type 0
-PrintOrders most errors errors' status =
+-- It is said that memory ran out; or it was told of the orders of a file, to some writer; whether an order is asked for as a script.
+abbrev pub PrintOrders : (most : ℕ) → (asked : Bool) → (errors errors' : Writing) → (status : ℕ) → Type 0
+PrintOrders most asked errors errors' status =
     SaysMemory errors errors' status
-    ⊎ ((writer writer' : Writing) × OrdersTold most writer writer' errors errors' status)
+    ⊎ ((writer writer' : Writing) × OrdersTold most asked writer writer' errors errors' status)
 
 -- the usage of this command, or of all
 abbrev pub usage_for : Option Command → List ℕ
@@ -43,4 +43,4 @@ abbrev pub CommandEnds : Result LookAsked (Option Command) → (errors errors' :
 CommandEnds (Err command) errors errors' status = Says errors errors' (usage_for command) × (status ≡ 2)
 CommandEnds (Ok (AskedWhy file at strict)) errors errors' status = PrintTold file at strict errors errors' status
 CommandEnds (Ok (AskedTimeline file lines object thread drawing strict)) errors errors' status = MakesTimeline drawing strict errors errors' status
-CommandEnds (Ok (AskedExplore file most)) errors errors' status = PrintOrders most errors errors' status
+CommandEnds (Ok (AskedExplore file most script)) errors errors' status = PrintOrders most (is_some script) errors errors' status

@@ -51,7 +51,7 @@ impl Command {
         match self {
             Command::Why => option == "--at",
             Command::Timeline => is_of_timeline(option),
-            Command::Explore => option == "--most",
+            Command::Explore => option == "--most" || option == "--script",
         }
     }
 
@@ -75,7 +75,7 @@ impl Command {
                 b"ntlook: usage: ntlook timeline [--strict] FILE [--lines A..B] [--object NAME] [--thread tN] [--svg OUT | --html OUT | --trace OUT]\n"
             }
             Command::Explore => {
-                b"ntlook: usage: ntlook explore FILE [--most STATES]   (1 to 4000000000; 1000000 if left out)\n"
+                b"ntlook: usage: ntlook explore FILE [--script OUT] [--most STATES]   (1 to 4000000000; 1000000 if left out)\n"
             }
         }
     }

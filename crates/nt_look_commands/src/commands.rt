@@ -1,5 +1,6 @@
 //! What is done with the words of a command line.
-ghost use Rattle.std.specs.Prelude.{◌≡◌, map, option_map, string_bytes};
+ghost use Rattle.std.specs.Prelude.{◌≡◌, is_some, map, option_map, string_bytes};
+ghost use Rattle.std.specs.Option.{option_copied};
 ghost use Rattle.nt_look_commands.specs.CommandLine.{drawing_asked, look_asked, look_of};
 ghost use Rattle.nt_look_commands.specs.Ending.{CommandEnds, MakesTimeline, PrintOrders, PrintTimeline, PrintTold, usage_for};
 
@@ -16,7 +17,7 @@ use std::rt::Files;
 /// The usage of all commands.
 const USAGE: &[u8] = b"ntlook: usage: ntlook why [--strict] FILE [--at LINE]
 ntlook: usage: ntlook timeline [--strict] FILE [--lines A..B] [--object NAME] [--thread tN] [--svg OUT | --html OUT | --trace OUT]
-ntlook: usage: ntlook explore FILE [--most STATES]   (1 to 4000000000; 1000000 if left out)
+ntlook: usage: ntlook explore FILE [--script OUT] [--most STATES]   (1 to 4000000000; 1000000 if left out)
 ";
 
 /// Reports to standard output why the threads of this file's script wait, and answers the exit status.
@@ -51,17 +52,26 @@ fn print_timeline<R: Files + AllocGlobal + Print, E: Sink>(
     }
 }
 
-/// Explores the orders of this file's script, reports on standard output, and answers the exit status.
+/// Explores the orders of this file's script, reports on standard output, and writes the order that hangs into a file, if one is named.
+/// Answers the exit status.
 fn print_orders<R: Files + AllocGlobal + Print, E: Sink>(
     rt: &R,
     path: &str,
     most: u64,
+    script: Option<&str>,
     errors: &mut E,
 ) -> u8
-    ensures { PrintOrders most (E.seen errors.old) (E.seen errors.new) result }
+    ensures { PrintOrders most (is_some (option_copied script.entry)) (E.seen errors.old) (E.seen errors.new) result }
 {
     match BufWriter::new(rt.alloc(), io::writer(rt)) {
-        Ok(writer) => explore_file(rt, path, most as usize, &mut Counted::new(writer), errors),
+        Ok(writer) => explore_file(
+            rt,
+            path,
+            most as usize,
+            script,
+            &mut Counted::new(writer),
+            errors,
+        ),
         Err(_) => lacks_memory(errors),
     }
 }
@@ -105,7 +115,7 @@ fn take_look<R: Files + AllocGlobal + Print, E: Sink>(rt: &R, look: Look<'_>, er
             drawing,
             strict,
         } => make_timeline(rt, file, &part, drawing, strict, errors),
-        Look::Explore { file, most } => print_orders(rt, file, most, errors),
+        Look::Explore { file, most, script } => print_orders(rt, file, most, script, errors),
     }
 }
 

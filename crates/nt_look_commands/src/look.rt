@@ -32,10 +32,11 @@ pub enum Look<'a> {
         drawing: Option<Drawing<'a>>,
         strict: bool,
     },
-    /// Explore the orders of the lines of the script in this file, until `most` states are met.
+    /// Explore the orders of the lines of the script in this file, until `most` states are met, and write the one that hangs into another file.
     Explore {
         file: &'a str,
         most: u64,
+        script: Option<&'a str>,
     },
 }
 
@@ -208,11 +209,14 @@ fn most_in(words: &[String]) -> Option<u64>
 }
 
 /// `ntlook explore`
-fn explore_in<'a>(file: &'a str, words: &[String]) -> Option<Look<'a>>
+fn explore_in<'a>(file: &'a str, words: &'a [String]) -> Option<Look<'a>>
     ensures { FindsLook (explore_in file.now (map string_bytes words.now)) result }
 {
     match most_in(words) {
-        Some(most) => Some(Look::Explore { file, most }),
+        Some(most) => {
+            let script = value_in("--script", words);
+            Some(Look::Explore { file, most, script })
+        }
         None => None,
     }
 }

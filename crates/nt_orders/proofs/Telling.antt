@@ -1,10 +1,9 @@
 -- What is told where the orders are not explored.
-use Rattle.std.proofs.Common.{◌≡◌, ℕ, ◌+◌, List, [], ◌∷◌, ◌++◌, length, replicate, Option, Some, None, refl, sym, ap, subst, ◌∙◌, arith, inl, inr}
+use Rattle.std.proofs.Common.{◌≡◌, ℕ, ◌+◌, List, [], ◌∷◌, ◌++◌, length, Option, Some, None, refl, sym, ap, subst, ◌∙◌, arith, inl, inr}
 use Rattle.std.proofs.lemmas.List.{append-nil}
 use Rattle.std.specs.Prelude.{Result, Err, IfErr}
 use Rattle.nt_core.specs.Dispatcher.{state}
 use Rattle.nt_lines.specs.Lines.{lines_of}
-use Rattle.nt_look.specs.Orders.{Plan}
 use Rattle.nt_script.specs.Progress.{Progress, progress}
 use Rattle.nt_script.specs.declared.session.Session.{Session}
 use Rattle.nt_grammar.specs.declared.fault.ScriptFault.TheVariants.{ThreadsExpected}
@@ -17,7 +16,7 @@ use Rattle.nt_hangs.specs.Watching.{Seen, unseen}
 use Rattle.nt_orders.specs.declared.lanes.LaneFault.TheVariants as lane
 use Rattle.nt_orders.specs.Ending.{IsFirstFault, TellsOrdersFault}
 use Rattle.nt_orders.specs.Faults.{order_message, order_status}
-use Rattle.nt_orders.specs.Plans.{EndsHead, IsHeadFault, LacksThreads, ReadsHead, SeesHead, StopsAfterHead, StopsInLanes}
+use Rattle.nt_orders.specs.Plans.{EndsHead, IsHeadFault, LacksThreads, Lanes, ReadsHead, SeesHead, StopsAfterHead, StopsInLanes, opened_lanes}
 use Rattle.nt_orders.specs.Reading.{IsFaultAt, at_line}
 use Rattle.nt_orders.specs.declared.fault.OrdersFault.{OrdersFault}
 use Rattle.nt_orders.specs.declared.fault.OrdersFault.TheVariants as orders
@@ -43,17 +42,17 @@ pub err_first : {X : Type 0} → (input : List ℕ) (fault : OrdersFault) (resul
 err_first input fault result is first = rw is (first)
 
 -- no line is in no lane since a read failed, or a write
-not_read : (now : Progress) (number line : ℕ) (lines : List (List ℕ)) (plan : Plan) → StopsInLanes now number lines plan (orders.Run (Read line)) → ⊥
-not_read now number line [] plan stops = stops
-not_read now number line (bytes ∷ lines) plan (inl is) = is
-not_read now number line (bytes ∷ lines) plan (inr later) = not_read now (number + 1) line lines later.1 later.4
+not_read : (now : Progress) (number line : ℕ) (lines : List (List ℕ)) (lanes : Lanes) → StopsInLanes now number lines lanes (orders.Run (Read line)) → ⊥
+not_read now number line [] lanes stops = stops
+not_read now number line (bytes ∷ lines) lanes (inl is) = is
+not_read now number line (bytes ∷ lines) lanes (inr later) = not_read now (number + 1) line lines later.1 later.4
 
-not_written : (now : Progress) (number line : ℕ) (lines : List (List ℕ)) (plan : Plan) → StopsInLanes now number lines plan (orders.Run (Write line)) → ⊥
-not_written now number line [] plan stops = stops
-not_written now number line (bytes ∷ lines) plan (inl is) = is
-not_written now number line (bytes ∷ lines) plan (inr later) = not_written now (number + 1) line lines later.1 later.4
+not_written : (now : Progress) (number line : ℕ) (lines : List (List ℕ)) (lanes : Lanes) → StopsInLanes now number lines lanes (orders.Run (Write line)) → ⊥
+not_written now number line [] lanes stops = stops
+not_written now number line (bytes ∷ lines) lanes (inl is) = is
+not_written now number line (bytes ∷ lines) lanes (inr later) = not_written now (number + 1) line lines later.1 later.4
 
-module _ (input rest : List ℕ) (count : ℕ) (seen : Seen) (head : ReadsHead input rest count seen) where
+module _ (input rest : List ℕ) (count : ℕ) (front : List ℕ) (seen : Seen) (head : ReadsHead input rest count front seen) where
   -- a head with no `threads` line is the whole script
   pub lacks_threads : seen.now ≡ None → IsFirstFault input (orders.Run (Script (count + 1) ThreadsExpected))
   lacks_threads none = inr (inl (refl, go (lines_of rest) refl (subst (λ (now : Option Progress). EndsHead now (lines_of rest)) none head.ends)))
@@ -70,15 +69,15 @@ module _ (input rest : List ℕ) (count : ℕ) (seen : Seen) (head : ReadsHead i
       go (bytes ∷ lines) some ends = absurd (subst (EndsHead None) some ends)
 
   -- a fault of a line after the head is the first, if the lines between the two were read
-  pub lanes_first : (session : Session) (plan : Plan) (fault : OrdersFault) → seen.now ≡ Some (progress session) → plan ≡ replicate ((state session.core).threads + 1) []
-      → StopsInLanes (progress session) (count + 1) (lines_of rest) plan fault → IsFirstFault input fault
-  lanes_first session plan fault is none stops = go fault (subst (λ (p : Plan). StopsInLanes (progress session) (count + 1) (lines_of rest) p fault) none stops)
+  pub lanes_first : (session : Session) (lanes : Lanes) (fault : OrdersFault) → seen.now ≡ Some (progress session) → lanes ≡ opened_lanes (state session.core).threads front
+      → StopsInLanes (progress session) (count + 1) (lines_of rest) lanes fault → IsFirstFault input fault
+  lanes_first session lanes fault is none stops = go fault (subst (λ (l : Lanes). StopsInLanes (progress session) (count + 1) (lines_of rest) l fault) none stops)
     where
-      begun : Plan
-      begun = replicate ((state session.core).threads + 1) []
+      begun : Lanes
+      begun = opened_lanes (state session.core).threads front
 
       after : (cause : OrdersFault) → StopsInLanes (progress session) (count + 1) (lines_of rest) begun cause → StopsAfterHead input cause
-      after cause stops = record { rest = rest; count = count; seen = seen; head = head; now = progress session; is = is; stops = stops }
+      after cause stops = record { rest = rest; count = count; front = front; seen = seen; head = head; now = progress session; is = is; stops = stops }
 
       go : (cause : OrdersFault) → StopsInLanes (progress session) (count + 1) (lines_of rest) begun cause → IsFirstFault input cause
       go (orders.Run (Script line cause)) stops = inr (inr (after (orders.Run (Script line cause)) stops))

@@ -1,9 +1,8 @@
 -- How `ntlook explore` ends.
-use Rattle.std.specs.Prelude.{◌≡◌, ◌⊎◌, ℕ, List, Result, Ok, Err, codes}
+use Rattle.std.specs.Prelude.{◌≡◌, ◌⊎◌, ◌&&◌, ◌==◌, ℕ, Bool, List, Option, None, Some, option_map, Result, Ok, Err, if◌then◌else◌, codes}
 use Rattle.std.specs.Io.KnownBytes.{Keeps}
 use Rattle.nt_devices.specs.Device.{Reading, Says, Writing, one_more}
 use Rattle.nt_calls.specs.State.{State}
-use Rattle.nt_look.specs.Orders.{Plan}
 use Rattle.nt_explore.specs.Search.{TellsSearch, TellsVerdict, beginning}
 use Rattle.nt_explore.specs.declared.explored.Explored.{Explored}
 use Rattle.nt_explore.specs.declared.explored.Verdict.{Verdict}
@@ -11,12 +10,12 @@ use Rattle.nt_explore.specs.declared.explored.Verdict.TheVariants as verdict
 use Rattle.nt_script.specs.Running.{Has}
 use Rattle.nt_script.specs.declared.fault.RunFault.TheVariants.{Script, Read, Write, Memory}
 use Rattle.nt_grammar.specs.declared.fault.ScriptFault.TheVariants.{ThreadsExpected}
-use Rattle.nt_hangs.specs.declared.reports.Report.{Report}
 use Rattle.nt_hangs.specs.Ending.{SaysMemory, Shows}
 use Rattle.nt_hangs.specs.Watching.{before_zero}
 use Rattle.nt_orders.specs.Faults.{order_message, order_status}
-use Rattle.nt_orders.specs.Plans.{IsPlanOf, LacksThreads, StopsAfterHead, StopsInHead}
+use Rattle.nt_orders.specs.Plans.{IsPlanOf, LacksThreads, Lanes, StopsAfterHead, StopsInHead, order_text}
 use Rattle.nt_orders.specs.declared.fault.OrdersFault.{OrdersFault}
+use Rattle.nt_orders.specs.declared.report.Findings.{Findings}
 use Rattle.nt_orders.specs.declared.fault.OrdersFault.TheVariants as orders
 
 -- the exit status of a verdict
@@ -25,12 +24,19 @@ verdict_code (verdict.Hangs lanes loss) = 3
 verdict_code verdict.None = 0
 verdict_code (verdict.Met level) = 4
 
+-- the order of a verdict as a script, where one hangs: what stands in front of the lanes, and then the lines in that order
+abbrev pub order_of : Lanes → Verdict → Option (List ℕ)
+order_of lanes (verdict.Hangs order loss) = Some (order_text lanes.texts lanes.front order.items)
+order_of lanes verdict.None = None
+order_of lanes (verdict.Met level) = None
+
 -- The exit status is that of the verdict on all orders of the plan from this state to which a search came, with so many states at the most: 4 is the status
--- only where it met more.
-abbrev pub PlanIsJudged : (most : ℕ) → Plan → State → ℕ → Type 0
-PlanIsJudged most plan s code =
-    (told : Explored) × TellsVerdict plan (beginning plan s) told.verdict × (code ≡ verdict_code told.verdict)
-    × (met : ℕ → ℕ) × (looked : ℕ) × TellsSearch plan (beginning plan s) most met looked told
+-- only where it met more. The script is the order that hangs.
+abbrev pub PlanIsJudged : (most : ℕ) → Lanes → State → Findings → Type 0
+PlanIsJudged most lanes s found =
+    (told : Explored) × TellsVerdict lanes.plan (beginning lanes.plan s) told.verdict × (found.report.code ≡ verdict_code told.verdict)
+    × (option_map (λ text. text.items) found.order ≡ order_of lanes told.verdict)
+    × (met : ℕ → ℕ) × (looked : ℕ) × TellsSearch lanes.plan (beginning lanes.plan s) most met looked told
 
 -- This is the script's first fault: in its head; that it has no `threads` line; or in a lane. Or memory was refused.
 abbrev pub IsFirstFault : List ℕ → OrdersFault → Type 0
@@ -43,38 +49,54 @@ IsFirstFault input (orders.Late line) = StopsAfterHead input (orders.Late line)
 IsFirstFault input (orders.NoThread line) = StopsAfterHead input (orders.NoThread line)
 IsFirstFault input orders.Memory = Unit {0}
 
--- What an exploration comes to: a report on the plan of the script; or the script has this first fault, or memory was refused.
-abbrev pub IsOrdersOutcome : (most : ℕ) → List ℕ → Result Report OrdersFault → Type 0
-IsOrdersOutcome most input (Ok report) = (plan : Plan) × (s : State) × IsPlanOf input plan s × PlanIsJudged most plan s report.code
+-- What an exploration comes to: a report on the lanes of the script; or the script has this first fault, or memory was refused.
+abbrev pub IsOrdersOutcome : (most : ℕ) → List ℕ → Result Findings OrdersFault → Type 0
+IsOrdersOutcome most input (Ok found) = (lanes : Lanes) × (s : State) × IsPlanOf input lanes s × PlanIsJudged most lanes s found
 IsOrdersOutcome most input (Err fault) = IsFirstFault input fault
 
 -- It is said why the orders are not explored, or that memory ran out for that too.
 abbrev pub TellsOrdersFault : OrdersFault → (errors errors' : Writing) → (status : ℕ) → Type 0
 TellsOrdersFault fault errors errors' status = (Says errors errors' (order_message fault) × (status ≡ order_status fault)) ⊎ SaysMemory errors errors' status
 
--- The report was shown; or nothing was written, and it is said why there is none.
-abbrev pub TellsOutcome : Result Report OrdersFault → (writer writer' errors errors' : Writing) → (status : ℕ) → Type 0
-TellsOutcome (Ok report) writer writer' errors errors' status =
-    Shows report.text.items report.code writer writer' errors errors' status
-TellsOutcome (Err fault) writer writer' errors errors' status =
+-- This text was handed on to a new file, or was not, and that is said; or it is said that the file can't be created.
+abbrev pub WritesOrder : List ℕ → (errors errors' : Writing) → (status : ℕ) → Type 0
+WritesOrder order errors errors' status =
+    ((writer writer' : Writing) × Shows order 3 writer writer' errors errors' status)
+    ⊎ (Says errors errors' (codes "ntlook: cannot create\n") × (status ≡ 1))
+
+-- the order that is written: one is asked for, there is one, and the report on it was shown
+abbrev pub order_due : Bool → ℕ → Option (List ℕ) → Option (List ℕ)
+order_due asked status order = if (status == 3) && asked then order else None
+
+-- An order was written after the report; or nothing more was done, and the exit status stays.
+abbrev pub KeepsOrder : Option (List ℕ) → (errors errors' : Writing) → (shown status : ℕ) → Type 0
+KeepsOrder None errors errors' shown status = (errors' ≡ errors) × (status ≡ shown)
+KeepsOrder (Some order) errors errors' shown status = WritesOrder order errors errors' status
+
+-- The report was shown, and then the order was written if one is asked for; or nothing was written, and it is said why there is no report.
+abbrev pub TellsOutcome : Bool → Result Findings OrdersFault → (writer writer' errors errors' : Writing) → (status : ℕ) → Type 0
+TellsOutcome asked (Ok found) writer writer' errors errors' status =
+    (mid : Writing) × (shown : ℕ) × Shows found.report.text.items found.report.code writer writer' errors mid shown
+    × KeepsOrder (order_due asked shown (option_map (λ text. text.items) found.order)) mid errors' shown status
+TellsOutcome asked (Err fault) writer writer' errors errors' status =
     Keeps writer.held writer'.held × (writer'.failed ≡ writer.failed) × TellsOrdersFault fault errors errors' status
 
--- What is told of a script with these bytes.
-pub record TellsOrders (most : ℕ) (input : List ℕ) (writer writer' errors errors' : Writing) (status : ℕ) : Type 0 where
-  pub outcome : Result Report OrdersFault
+-- What is told of a script with these bytes; whether an order is asked for as a script.
+pub record TellsOrders (most : ℕ) (asked : Bool) (input : List ℕ) (writer writer' errors errors' : Writing) (status : ℕ) : Type 0 where
+  pub outcome : Result Findings OrdersFault
   pub is : IsOrdersOutcome most (before_zero input) outcome
-  pub tells : TellsOutcome outcome writer writer' errors errors' status
+  pub tells : TellsOutcome asked outcome writer writer' errors errors' status
 
 -- All was read, and told of; or nothing was written, and it is said that the read failed or memory ran out.
-pub record OrdersEnd (most : ℕ) (reader reader' : Reading) (writer writer' errors errors' : Writing) (status : ℕ) : Type 0 where
+pub record OrdersEnd (most : ℕ) (asked : Bool) (reader reader' : Reading) (writer writer' errors errors' : Writing) (status : ℕ) : Type 0 where
   pub either :
-      ((input : List ℕ) × Has reader.left input × (reader'.failed ≡ reader.failed) × TellsOrders most input writer writer' errors errors' status)
+      ((input : List ℕ) × Has reader.left input × (reader'.failed ≡ reader.failed) × TellsOrders most asked input writer writer' errors errors' status)
       ⊎ (Keeps writer.held writer'.held × (writer'.failed ≡ writer.failed)
       × (((reader'.failed ≡ one_more reader.failed) × Says errors errors' (codes "ntlook: read failed\n") × (status ≡ 1))
       ⊎ ((reader'.failed ≡ reader.failed) × SaysMemory errors errors' status)))
 
 -- It is said that the file can't be opened, and nothing was written; or the script in it was told of.
-pub record OrdersTold (most : ℕ) (writer writer' errors errors' : Writing) (status : ℕ) : Type 0 where
+pub record OrdersTold (most : ℕ) (asked : Bool) (writer writer' errors errors' : Writing) (status : ℕ) : Type 0 where
   pub either :
       (Says errors errors' (codes "ntlook: cannot open\n") × (status ≡ 1) × Keeps writer.held writer'.held × (writer'.failed ≡ writer.failed))
-      ⊎ ((reader reader' : Reading) × OrdersEnd most reader reader' writer writer' errors errors' status)
+      ⊎ ((reader reader' : Reading) × OrdersEnd most asked reader reader' writer writer' errors errors' status)

@@ -10,11 +10,11 @@ ghost use Rattle.nt_script.specs.declared.fault.RunFault.TheVariants as run;
 ghost use Rattle.nt_grammar.specs.declared.fault.ScriptFault.TheVariants.{ThreadsExpected};
 ghost use Rattle.nt_orders.specs.declared.fault.OrdersFault.TheVariants as orders;
 ghost use Rattle.nt_orders.specs.Ending.{IsFirstFault};
-ghost use Rattle.nt_orders.specs.Plans.{IsPlanOf, ReadsLanes, StopsInLanes, with_ask};
-ghost use Rattle.nt_orders.specs.Reading.{AddsLine, Finds, IsAskOf, IsLaneFault, at_line};
+ghost use Rattle.nt_orders.specs.Plans.{IsPlanOf, ReadsLanes, StopsInLanes, opened_lanes, with_line, with_text};
+ghost use Rattle.nt_orders.specs.Reading.{AddsLine, Finds, IsAskOf, IsLaneFault, at_line, lanes_of, texts_of, with_found};
 
 use crate::fault::OrdersFault;
-use crate::head::{fault_at, see_head};
+use crate::head::{fault_at, put_whole, see_head};
 use nt_calls::Call;
 use nt_explore::{Ask, Plan};
 use nt_grammar::{LineFault, ScriptFault, Statement};
@@ -31,6 +31,8 @@ pub struct Line {
     pub number: u64,
     /// Its words, with a space between two.
     pub text: Vec<u8>,
+    /// All of it, as it stands, without its LF.
+    pub bytes: Vec<u8>,
 }
 
 /// A script as a plan: the dispatcher after its head, and each lane's lines.
@@ -43,6 +45,8 @@ pub struct Script {
     pub(crate) plan: Plan,
     /// By lane, the lines that the plan's asks stand on.
     pub(crate) lines: Vec<Vec<Line>>,
+    /// The head, and the lines after it that say nothing, as they stand.
+    pub(crate) front: Vec<u8>,
 }
 
 /// Puts the words of a text, with a space between two.
@@ -68,6 +72,17 @@ fn words_of(alloc: Global, line: &[u8]) -> Result<Vec<u8>, AllocError> {
         put_words(&mut text, said)?;
     }
     Ok(text)
+}
+
+/// A line of a lane, with this number.
+fn line_of(alloc: Global, number: u64, line: &[u8]) -> Result<Line, AllocError>
+    ensures { IfOk result (λ made. made.bytes.items ≡ line.now) }
+{
+    Ok(Line {
+        number,
+        text: words_of(alloc, line)?,
+        bytes: Vec::from_slice(alloc, line)?,
+    })
 }
 
 /// Why a line is not of a lane.
@@ -125,74 +140,100 @@ fn find(session: &Session, alloc: Global, line: &[u8]) -> Result<Option<(u32, As
     }
 }
 
-/// For each of `threads` threads and for the ticks: no line yet.
-fn no_lines(alloc: Global, threads: u32) -> Result<Vec<Vec<Line>>, AllocError> {
-    let mut lines = Vec::new(alloc);
-    for _lane in 0..threads as usize + 1 {
-        lines.push(Vec::new(alloc))?;
+/// No line yet, in each of `count` lanes.
+fn no_lines(alloc: Global, count: usize) -> Result<Vec<Vec<Line>>, AllocError>
+    ensures { IfOk result (λ lines. texts_of lines.items ≡ replicate count []) }
+{
+    let mut lines = Vec::with_capacity(alloc, count)?;
+    for _ in 0..count {
+        lines.push_reserved(Vec::new(alloc));
     }
     Ok(lines)
 }
 
+/// Puts the line last in its lane, if there is that lane.
+fn push_line(lines: &mut Vec<Vec<Line>>, lane: u32, line: Line) -> Result<(), AllocError>
+    ensures { OnOk result (texts_of lines.new.items
+        ≡ with_text (texts_of lines.old.items) lane line.bytes.items) }
+{
+    if lane as usize >= lines.len() {
+        return Ok(());
+    }
+    lines[lane as usize].push(line)?;
+    Ok(())
+}
+
 impl Script {
-    /// After its head, with no line of a lane yet.
-    fn new(alloc: Global, session: Session, objects: Vec<u32>) -> Result<Script, AllocError>
+    /// After its head, with no line of a lane yet. `front` is the head's text.
+    fn new(
+        alloc: Global,
+        session: Session,
+        objects: Vec<u32>,
+        front: Vec<u8>,
+    ) -> Result<Script, AllocError>
         ensures session { IfOk result (λ script. script.session ≡ session) }
-        ensures plan { IfOk result (λ script. script.plan ≡ replicate ((state session.core).threads + 1) []) }
+        ensures lanes { IfOk result (λ script.
+            lanes_of script ≡ opened_lanes (state session.core).threads front.items) }
     {
         let threads = session.core().threads();
         let plan = Plan::new(alloc, threads)?;
-        let lines = no_lines(alloc, threads)?;
+        let lines = no_lines(alloc, threads as usize + 1)?;
         Ok(Script {
             session,
             objects,
             plan,
             lines,
+            front,
         })
     }
 
-    /// Puts the line with this number last in its lane.
-    fn add(&mut self, lane: u32, ask: Ask, number: u64, text: Vec<u8>) -> Result<(), AllocError>
-        ensures plan { OnOk result (self.new.plan ≡ with_ask self.old.plan lane (asked ask)) }
+    /// Puts the line last in its lane.
+    fn add(&mut self, lane: u32, ask: Ask, line: Line) -> Result<(), AllocError>
+        ensures lanes { OnOk result (lanes_of self.new
+            ≡ with_line (lanes_of self.old) lane (asked ask) line.bytes.items) }
         ensures session { self.new.session ≡ self.old.session }
     {
-        if (lane as usize) < self.lines.len() {
-            self.lines[lane as usize].push(Line { number, text })?;
-        }
-        self.plan.add(lane, ask)
+        push_line(&mut self.lines, lane, line)?;
+        self.plan.add(lane, ask)?;
+        Ok(())
     }
 
-    /// Puts the line with this number last in its lane, with its words.
+    /// Puts the line with this number last in its lane, or in front if it is of none.
     fn put(
         &mut self,
         alloc: Global,
         number: u64,
-        line: &[u8],
-        lane: u32,
-        ask: Ask,
-    ) -> Result<(), LaneFault>
-        ensures plan { OnOk result (self.new.plan ≡ with_ask self.old.plan lane (asked ask)) }
+        bytes: &[u8],
+        found: Option<(u32, Ask)>,
+    ) -> Result<(), AllocError>
+        ensures lanes { OnOk result (lanes_of self.new ≡ with_found (lanes_of self.old) bytes.now found) }
         ensures session { self.new.session ≡ self.old.session }
-        ensures fault { IfErr result (IsLaneFault (progress self.old.session) line.now) }
     {
-        let Ok(text) = words_of(alloc, line) else {
-            return Err(LaneFault::Line(LineFault::Memory));
-        };
-        match self.add(lane, ask, number, text) {
-            Ok(()) => Ok(()),
-            Err(_) => Err(LaneFault::Line(LineFault::Memory)),
+        match found {
+            Some((lane, ask)) => {
+                let line = line_of(alloc, number, bytes)?;
+                self.add(lane, ask, line)?;
+                Ok(())
+            }
+            None => {
+                put_whole(&mut self.front, bytes)?;
+                Ok(())
+            }
         }
     }
 
-    /// Reads the line with this number, and puts it last in its lane.
+    /// Reads the line with this number, and puts it last in its lane, or in front if it says nothing.
     fn read(&mut self, alloc: Global, number: u64, line: &[u8]) -> Result<(), LaneFault>
-        ensures plan { OnOk result (AddsLine (progress self.old.session) line.now self.old.plan self.new.plan) }
+        ensures lanes { OnOk result (AddsLine (progress self.old.session) line.now
+            (lanes_of self.old) (lanes_of self.new)) }
         ensures session { self.new.session ≡ self.old.session }
         ensures fault { IfErr result (IsLaneFault (progress self.old.session) line.now) }
     {
         match find(&self.session, alloc, line) {
-            Ok(Some((lane, ask))) => self.put(alloc, number, line, lane, ask),
-            Ok(None) => Ok(()),
+            Ok(found) => match self.put(alloc, number, line, found) {
+                Ok(()) => Ok(()),
+                Err(_) => Err(LaneFault::Line(LineFault::Memory)),
+            },
             Err(fault) => Err(fault),
         }
     }
@@ -200,9 +241,11 @@ impl Script {
     /// Reads the lines after the first `count`.
     fn read_lanes(&mut self, alloc: Global, count: u64, input: &[u8]) -> Result<(), OrdersFault>
         requires few { count + length input.now < 2 ^ 64 }
-        ensures plan { OnOk result (ReadsLanes (progress self.old.session) (lines_of input.now) self.old.plan self.new.plan) }
+        ensures lanes { OnOk result (ReadsLanes (progress self.old.session) (lines_of input.now)
+            (lanes_of self.old) (lanes_of self.new)) }
         ensures session { self.new.session ≡ self.old.session }
-        ensures fault { IfErr result (StopsInLanes (progress self.old.session) (count + 1) (lines_of input.now) self.old.plan) }
+        ensures fault { IfErr result (StopsInLanes (progress self.old.session) (count + 1) (lines_of input.now)
+            (lanes_of self.old)) }
     {
         let mut rest = input;
         let mut number = count;
@@ -218,17 +261,18 @@ impl Script {
     }
 }
 
-/// The script after its head, which was carried out.
-fn begin(alloc: Global, watch: Watch, count: u64) -> Result<Script, OrdersFault>
+/// The script after its head, which was carried out. `front` is the head's text.
+fn begin(alloc: Global, watch: Watch, count: u64, front: Vec<u8>) -> Result<Script, OrdersFault>
     requires few { count + 1 < 2 ^ 64 }
     ensures session { IfOk result (λ script. (seen_of watch).now ≡ Some (progress script.session)) }
-    ensures plan { IfOk result (λ script. script.plan ≡ replicate ((state script.session.core).threads + 1) []) }
+    ensures lanes { IfOk result (λ script.
+        lanes_of script ≡ opened_lanes (state script.session.core).threads front.items) }
     ensures fault { IfErr result (λ fault. (fault ≡ orders.Memory)
         ⊎ (((seen_of watch).now ≡ None) × (fault ≡ orders.Run (run.Script (count + 1) ThreadsExpected)))) }
 {
     let (session, objects) = watch.into_parts();
     match session {
-        Some(session) => match Script::new(alloc, session, objects) {
+        Some(session) => match Script::new(alloc, session, objects, front) {
             Ok(script) => Ok(script),
             Err(_) => Err(OrdersFault::Memory),
         },
@@ -241,18 +285,21 @@ fn begin(alloc: Global, watch: Watch, count: u64) -> Result<Script, OrdersFault>
 
 /// Carries out the head of a script, and reads the lines after it.
 pub(crate) fn read_script(alloc: Global, input: &[u8]) -> Result<Script, OrdersFault>
-    ensures plan { IfOk result (λ script. IsPlanOf input.now script.plan (state script.session.core)) }
+    ensures plan { IfOk result (λ script. IsPlanOf input.now (lanes_of script) (state script.session.core)) }
     ensures fault { IfErr result (IsFirstFault input.now) }
 {
     match Watch::new(alloc) {
-        Ok(mut watch) => match see_head(&mut watch, alloc, input) {
-            Ok((count, rest)) => {
-                let mut script = begin(alloc, watch, count)?;
-                script.read_lanes(alloc, count, rest)?;
-                Ok(script)
+        Ok(mut watch) => {
+            let mut front = Vec::new(alloc);
+            match see_head(&mut watch, alloc, &mut front, input) {
+                Ok((count, rest)) => {
+                    let mut script = begin(alloc, watch, count, front)?;
+                    script.read_lanes(alloc, count, rest)?;
+                    Ok(script)
+                }
+                Err(fault) => Err(OrdersFault::Run(fault)),
             }
-            Err(fault) => Err(OrdersFault::Run(fault)),
-        },
+        }
         Err(_) => Err(OrdersFault::Memory),
     }
 }

@@ -4,7 +4,8 @@
 //! A script is one order of its threads' calls. Here its lines are a plan: what stands at the head, creations alone, is made first; then each
 //! thread keeps the order of its own lines, and the ticks keep theirs ([`Script`]). `nt_explore` tries all orders of the plan, and the
 //! report shows the shortest that hangs: line by line with what each answered, who waits for what at its end, and since when a wait was lost
-//! ([`report_on`]). [`explore_over`] writes it for a reader's script, and [`explore_file`] for a file's.
+//! ([`report_on`]). That order is a script too, which ends where it hangs ([`Findings`]). [`explore_over`] writes both for a reader's script, and
+//! [`explore_file`] for a file's.
 #![tactic(auto)]
 
 mod answers;
@@ -13,6 +14,7 @@ mod fault;
 mod hang;
 mod head;
 mod lanes;
+mod order;
 mod report;
 mod rows;
 mod text;
@@ -21,4 +23,4 @@ mod walk;
 pub use explore::{explore_file, explore_over};
 pub use fault::OrdersFault;
 pub use lanes::{Line, Script};
-pub use report::report_on;
+pub use report::{Findings, report_on};

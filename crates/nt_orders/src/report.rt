@@ -3,6 +3,7 @@ ghost use Rattle.std.specs.Prelude.{◌≡◌, IfOk};
 ghost use Rattle.nt_core.specs.Dispatcher.{state};
 ghost use Rattle.nt_hangs.specs.Watching.{before_zero};
 ghost use Rattle.nt_orders.specs.Ending.{verdict_code, PlanIsJudged, IsOrdersOutcome};
+ghost use Rattle.nt_orders.specs.Reading.{lanes_of};
 
 use crate::fault::OrdersFault;
 use crate::hang::{held_at, put_hang};
@@ -23,6 +24,14 @@ impl Watcher for Nobody {
     ghost learns = { λ old looked states new. Unit {0} };
 
     fn tell(&mut self, _looked: usize, _states: usize) {}
+}
+
+/// What the orders of a script come to.
+#[derive(Drop)]
+pub struct Findings {
+    pub report: Report,
+    /// The order that hangs, as a script, if one does: the head as it stands, then the lines in that order.
+    pub order: Option<Vec<u8>>,
 }
 
 /// Puts a count and what is counted, with an `s` unless it is one.
@@ -191,11 +200,13 @@ impl Script {
         file: &[u8],
         told: &[u8],
         most: usize,
-    ) -> Result<Report, AllocError>
-        ensures { IfOk result (λ report. PlanIsJudged most self.old.plan (state self.old.session.core) report.code) }
+    ) -> Result<Findings, AllocError>
+        ensures { IfOk result (PlanIsJudged most (lanes_of self.old) (state self.old.session.core)) }
     {
         let explored = explore(alloc, self.session.core(), &self.plan, most, &mut Nobody)?;
-        self.report(alloc, file, told, &explored)
+        let order = self.order_of(alloc, &explored.verdict)?;
+        let report = self.report(alloc, file, told, &explored)?;
+        Ok(Findings { report, order })
     }
 }
 
@@ -206,13 +217,13 @@ pub fn report_on(
     file: &[u8],
     input: &[u8],
     most: usize,
-) -> Result<Report, OrdersFault>
+) -> Result<Findings, OrdersFault>
     ensures { IsOrdersOutcome most (before_zero input.now) result }
 {
     let lines = before_zero(input);
     let mut script = read_script(alloc, lines)?;
     match script.explore(alloc, file, lines, most) {
-        Ok(report) => Ok(report),
+        Ok(found) => Ok(found),
         Err(_) => Err(OrdersFault::Memory),
     }
 }

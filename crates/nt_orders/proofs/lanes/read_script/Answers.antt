@@ -1,6 +1,7 @@
 use Rattle.std.proofs.Common.{rules, ◌≡◌}
 use Rattle.std.specs.Prelude.{Err}
 use Rattle.nt_hangs.specs.Watching.{seen_of}
+use Rattle.nt_orders.specs.Reading.{lanes_of}
 use Rattle.nt_orders.proofs.Adding.{is_plan}
 use Rattle.nt_orders.proofs.Telling.{err_first, lanes_first}
 use Rattle.nt_orders.proofs.lanes.read_script.Goals as goal
@@ -9,8 +10,8 @@ pub returns-in_ok-read_lanes-in-Ok-see_head-clause-plan : goal.returns-in_ok-rea
 returns-in_ok-read_lanes-in-Ok-see_head-clause-plan c =
     let begun = c.in_ok-script-in-Ok-see_head in
     let read = c.in_ok-read_lanes-in-Ok-see_head in
-    is_plan c.args.input.now c.in-Ok-see_head.rest.now c.in-Ok-see_head.count (seen_of c.see_head.new.watch) begun.script.session c.read_lanes.new.self.session begun.script.plan c.read_lanes.new.self.plan
-    c.in-Ok-see_head.ensures.head begun.ensures.session begun.ensures.plan read.ensures.plan read.ensures.session
+    is_plan c.args.input.now c.in-Ok-see_head.rest.now c.in-Ok-see_head.count c.see_head.new.front.items (seen_of c.see_head.new.watch) begun.script.session c.read_lanes.new.self.session
+    (lanes_of begun.script) (lanes_of c.read_lanes.new.self) c.in-Ok-see_head.ensures.head begun.ensures.session begun.ensures.lanes read.ensures.lanes read.ensures.session
 
 pub returns-in_err-read_lanes-in-Ok-see_head-clause-fault : goal.returns-in_err-read_lanes-in-Ok-see_head-clause-fault
 returns-in_err-read_lanes-in-Ok-see_head-clause-fault c =
@@ -18,5 +19,5 @@ returns-in_err-read_lanes-in-Ok-see_head-clause-fault c =
     let read = c.in_err-read_lanes-in-Ok-see_head in
     let is : c.from_residual-in_err-read_lanes-in-Ok-see_head.result ≡ Err read.field-0.0 = search rules in
     err_first c.args.input.now read.field-0.0 c.from_residual-in_err-read_lanes-in-Ok-see_head.result is
-    (lanes_first c.args.input.now c.in-Ok-see_head.rest.now c.in-Ok-see_head.count (seen_of c.see_head.new.watch) c.in-Ok-see_head.ensures.head begun.script.session begun.script.plan read.field-0.0
-    begun.ensures.session begun.ensures.plan read.ensures.fault)
+    (lanes_first c.args.input.now c.in-Ok-see_head.rest.now c.in-Ok-see_head.count c.see_head.new.front.items (seen_of c.see_head.new.watch) c.in-Ok-see_head.ensures.head begun.script.session
+    (lanes_of begun.script) read.field-0.0 begun.ensures.session begun.ensures.lanes read.ensures.fault)
