@@ -17,9 +17,9 @@ use crate::hold::Hold;
 use crate::moments::floor_after;
 use crate::named::Named;
 use crate::receipt::{History, Part, Receipt};
-use crate::wake::ToWake;
+use crate::wake::{ToWake, Unwoken};
 use crate::write::{publish, send, tell, write_call};
-use nt_core::{Call, Core, Reply};
+use nt_core::{Call, Core, Grant, Reply};
 use nt_life::Lasting;
 use nt_mail::{DispatcherSeat, ENTRY_LIMIT, Mail, PackedEntry};
 use nt_status::{Moment, Refusal, ThreadId};
@@ -65,7 +65,6 @@ impl<N: Named> Book<N> {
     ///
     /// Refused with JournalFull where the room left is too small for an entry and one more for each pending wait; nothing changes
     /// then. Every other answer of the dispatcher is written, a refusal too.
-    #[inline(always)]
     pub fn call(
         &mut self,
         mail: &Mail,
@@ -78,6 +77,28 @@ impl<N: Named> Book<N> {
         ensures answer { IfOk result (λ r. IsTrue (is_answer call r.0.result)) }
         ensures waits { IfOk result (λ r. pended r.0.result ≡ true → is_wait call ≡ true) }
         ensures wakes { IfOk result (λ r. Wakes r.1 self.new.core.grants) }
+        ensures full { (result ≡ Err JournalFull) ↔ IsFull self.old }
+        ensures err { IfErr result (λ r. (r ≡ JournalFull) × WasFull N.front caller.old
+            × (self.new ≡ self.old) × (caller.new ≡ caller.old)) }
+    {
+        let (receipt, unwoken) = self.enter_call(mail, caller, call)?;
+        let to_wake = unwoken.to_wake(self.grants());
+        Ok((receipt, to_wake))
+    }
+
+    /// The same, with those that it wakes still to be asked for. Mostly there are none, and a `ToWake` is long.
+    #[inline(always)]
+    pub(crate) fn enter_call(
+        &mut self,
+        mail: &Mail,
+        caller: &mut Hold<N>,
+        call: Call,
+    ) -> Result<(Receipt, Unwoken), Refusal>
+        requires mail { mail.now ≡ N.front.table }
+        ensures book { IfOk result (λ r. WritesCall self.old caller.old.thread call r.0.result self.new) }
+        ensures entered { IfOk result (λ r. IsEntered self.old caller.old (Asked.Call call) r.0 caller.new) }
+        ensures answer { IfOk result (λ r. IsTrue (is_answer call r.0.result)) }
+        ensures waits { IfOk result (λ r. pended r.0.result ≡ true → is_wait call ≡ true) }
         ensures full { (result ≡ Err JournalFull) ↔ IsFull self.old }
         ensures err { IfErr result (λ r. (r ≡ JournalFull) × WasFull N.front caller.old
             × (self.new ≡ self.old) × (caller.new ≡ caller.old)) }
@@ -107,8 +128,7 @@ impl<N: Named> Book<N> {
             entry + 1,
             self.life.core().grants(),
         );
-        let to_wake = ToWake::of(self.life.core().grants());
-        Ok((Receipt { entry, result }, to_wake))
+        Ok((Receipt { entry, result }, Unwoken::new()))
     }
 
     /// Makes a tick by the thread of this hold, and writes it with the waits that it ended. Answers whom they wake, too.
@@ -126,6 +146,27 @@ impl<N: Named> Book<N> {
         ensures answer { IfOk result (λ r. IsTrue (is_done r.0.result)) }
         ensures waits { IfOk result (λ r. pended r.0.result ≡ false) }
         ensures wakes { IfOk result (λ r. Wakes r.1 self.new.core.grants) }
+        ensures full { (result ≡ Err JournalFull) ↔ IsFull self.old }
+        ensures err { IfErr result (λ r. (r ≡ JournalFull) × WasFull N.front caller.old
+            × (self.new ≡ self.old) × (caller.new ≡ caller.old)) }
+    {
+        let (receipt, unwoken) = self.enter_tick(mail, caller, moment)?;
+        let to_wake = unwoken.to_wake(self.grants());
+        Ok((receipt, to_wake))
+    }
+
+    /// The same, with those that it wakes still to be asked for.
+    pub(crate) fn enter_tick(
+        &mut self,
+        mail: &Mail,
+        caller: &mut Hold<N>,
+        moment: Moment,
+    ) -> Result<(Receipt, Unwoken), Refusal>
+        requires mail { mail.now ≡ N.front.table }
+        ensures book { IfOk result (λ r. WritesTick self.old caller.old.thread moment r.0.result self.new) }
+        ensures entered { IfOk result (λ r. IsEntered self.old caller.old (Asked.Tick moment) r.0 caller.new) }
+        ensures answer { IfOk result (λ r. IsTrue (is_done r.0.result)) }
+        ensures waits { IfOk result (λ r. pended r.0.result ≡ false) }
         ensures full { (result ≡ Err JournalFull) ↔ IsFull self.old }
         ensures err { IfErr result (λ r. (r ≡ JournalFull) × WasFull N.front caller.old
             × (self.new ≡ self.old) × (caller.new ≡ caller.old)) }
@@ -158,8 +199,14 @@ impl<N: Named> Book<N> {
             self.life.core().grants(),
         );
         publish(mail, &mut self.dispatcher, moment, &result);
-        let to_wake = ToWake::of(self.life.core().grants());
-        Ok((Receipt { entry, result }, to_wake))
+        Ok((Receipt { entry, result }, Unwoken::new()))
+    }
+
+    /// The waits that the last call or tick ended.
+    pub(crate) fn grants(&self) -> &[Grant]
+        ensures { result.now ≡ self.now.core.grants }
+    {
+        self.life.core().grants()
     }
 
     /// Hands out the entries since the base, with the base. From then on a copy of the dispatcher is the base, and no entry stands.

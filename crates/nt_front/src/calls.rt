@@ -72,9 +72,8 @@ impl<N: Named> Front<N> {
         ensures full { OnErr result (WasFull N.front pass.old) }
     {
         let mut book = self.book.lock(rt);
-        let (receipt, to_wake) = book.tick(&self.mail, &mut pass.hold, moment)?;
-        drop(book);
-        self.bells.ring(to_wake);
+        let (receipt, unwoken) = book.enter_tick(&self.mail, &mut pass.hold, moment)?;
+        self.give_back(book, unwoken);
         Ok(receipt)
     }
 
@@ -137,9 +136,8 @@ impl<N: Named> Front<N> {
         ensures err { OnErr result (caller.new ≡ caller.old) }
     {
         let mut book = self.book.lock(rt);
-        let (receipt, to_wake) = book.call(&self.mail, caller, call)?;
-        drop(book);
-        self.bells.ring(to_wake);
+        let (receipt, unwoken) = book.enter_call(&self.mail, caller, call)?;
+        self.give_back(book, unwoken);
         Ok(receipt)
     }
 }

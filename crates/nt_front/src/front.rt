@@ -8,12 +8,14 @@ ghost use Rattle.nt_mail.specs.Journals.{is_renewal};
 ghost use Rattle.nt_front.specs.Runs.{IsLawfulHistory, IsLawfulRun, LeadTo};
 ghost use Rattle.nt_front.specs.Held.{IsAccounted};
 
+use crate::book::Book;
 use crate::hold::Held;
 use crate::lock::Locked;
 use crate::named::Named;
 use crate::receipt::History;
-use crate::wake::Bells;
+use crate::wake::{Bells, Unwoken};
 use nt_mail::Mail;
+use std::sync::MutexGuard;
 
 /// The dispatcher behind a lock, for the threads that have passes of this name.
 pub struct Front<N: Named> {
@@ -36,6 +38,23 @@ impl<N: Named> Drop for Front<N> {
 }
 
 impl<N: Named> Front<N> {
+    /// Gives the lock back after a call or tick, and then wakes whom it granted. Mostly it granted nobody.
+    #[inline(always)]
+    pub(crate) fn give_back(&self, book: MutexGuard<'_, Book<N>>, unwoken: Unwoken) {
+        match unwoken.unless_none(book.grants()) {
+            Some(unwoken) => self.give_back_and_wake(book, unwoken),
+            None => drop(book),
+        }
+    }
+
+    /// The same, where it granted somebody.
+    #[inline(never)]
+    fn give_back_and_wake(&self, book: MutexGuard<'_, Book<N>>, unwoken: Unwoken) {
+        let to_wake = unwoken.to_wake(book.grants());
+        drop(book);
+        self.bells.ring(to_wake);
+    }
+
     /// Ends the front, and answers the rest of the journal. What each hold knows is what stands there, and in the entries that were handed
     /// out before.
     pub fn finish(self, mut holds: Vec<Held<N>>) -> History

@@ -31,12 +31,11 @@ impl<N: Named> Front<N> {
     {
         let Pass { mut hold } = pass;
         let mut book = self.book.lock(rt);
-        let Ok((begun, to_wake)) = book.call(&self.mail, &mut hold, Call::Wait(wait)) else {
+        let Ok((begun, unwoken)) = book.enter_call(&self.mail, &mut hold, Call::Wait(wait)) else {
             return Waited::NoRoom(Pass { hold });
         };
-        drop(book);
         // Whom the signal of a swap granted is woken before this thread sleeps.
-        self.bells.ring(to_wake);
+        self.give_back(book, unwoken);
         if has_pended(&begun.result) {
             let (pass, granted) = self.sleep(rt, Sleeper { hold });
             return Waited::Granted(pass, begun, granted);

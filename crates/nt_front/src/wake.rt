@@ -1,8 +1,9 @@
 //! Who is woken, and when a thread may sleep.
 //!
-//! Nothing can be proved of a wake-up, so types keep that none is forgotten. Whoever makes a call or tick is given a `ToWake`, which can't be
-//! let go, and which `Bells::ring` alone takes. A thread sleeps by a `Ticket` alone, which was made before the poll that found no grant.
-ghost use Rattle.std.specs.Prelude.{◌≡◌, [], length, IfOk, IfErr, IfSome, is_some, nat_lt};
+//! Nothing can be proved of a wake-up, so types keep that none is forgotten. Whoever makes a call or tick is given an `Unwoken`, which can't
+//! be let go. With the grants that were left it becomes a `ToWake`, which `Bells::ring` alone takes; if there are none it is spent.
+//! A thread sleeps by a `Ticket` alone, which was made before the poll that found no grant.
+ghost use Rattle.std.specs.Prelude.{◌≡◌, [], length, IfOk, IfErr, IfSome, IfNone, is_some, nat_lt};
 ghost use Rattle.nt_status.specs.declared.refusal.Refusal.TheVariants.{Memory};
 ghost use Rattle.nt_front.specs.Marks.{IsMarkedToo, AreMarks};
 ghost use Rattle.nt_front.specs.Polls.{IsStill};
@@ -15,7 +16,7 @@ use nt_core::Grant;
 use nt_marks::FewMarks;
 use nt_status::{MAX_THREADS, Refusal, ThreadId};
 use std::alloc::{AllocError, Global};
-use std::marker::Model;
+use std::marker::{Model, PhantomData};
 use std::snapshot::Snapshot;
 use std::sync::Wait;
 
@@ -61,6 +62,37 @@ impl ToWake {
             Some(mark_all(grants))
         };
         ToWake { marks }
+    }
+}
+
+/// That nobody was woken yet of whom a call or tick granted. It has no bytes, and must be spent, with the grants that were left.
+pub(crate) struct Unwoken {
+    of: PhantomData<()>,
+}
+
+impl Unwoken {
+    /// That of a call or tick that was made.
+    pub(crate) fn new() -> Unwoken {
+        Unwoken { of: PhantomData }
+    }
+
+    /// The threads of these grants.
+    pub(crate) fn to_wake(self, grants: &[Grant]) -> ToWake
+        ensures { Wakes result grants.now }
+    {
+        let Unwoken { of: _ } = self;
+        ToWake::of(grants)
+    }
+
+    /// The same, or None where these grants are none, and so there is nobody to wake.
+    pub(crate) fn unless_none(self, grants: &[Grant]) -> Option<Unwoken>
+        ensures { IfNone result (grants.now ≡ []) }
+    {
+        if grants.is_empty() {
+            let Unwoken { of: _ } = self;
+            return None;
+        }
+        Some(self)
     }
 }
 

@@ -20,7 +20,7 @@ use Rattle.nt_front.proofs.Told.{no_apc_done}
 use Rattle.nt_front.proofs.Floors.{fewer_calls, floor_ticks, calls_made, numbered_made, made_tick}
 use Rattle.std.specs.Prelude.{max}
 use Rattle.nt_answers.proofs.Telling.{tick_told}
-use Rattle.nt_front.proofs.book.Book.tick.Goals as goal
+use Rattle.nt_front.proofs.book.Book.enter_tick.Goals as goal
 
 pub overflow_add-caller : goal.overflow_add-caller
 overflow_add-caller g c =

@@ -18,7 +18,7 @@ use Rattle.nt_front.specs.Runs.{Agree, AreArmed, granted}
 use Rattle.nt_front.specs.Holds.{floor_of, with_made_call, AreNumbered}
 use Rattle.nt_front.proofs.Journals.{below, own_of, accepted_of, stands_after, call_arms, call_sends, agree_after_call, arms_of, accepted-step, journal_is, written_count, last_is, room_left}
 use Rattle.nt_front.proofs.Floors.{fewer_calls, floor_calls, calls_made, numbered_made, made_call}
-use Rattle.nt_front.proofs.book.Book.call.Goals as goal
+use Rattle.nt_front.proofs.book.Book.enter_call.Goals as goal
 
 pub overflow_add-caller : goal.overflow_add-caller
 overflow_add-caller g c =
