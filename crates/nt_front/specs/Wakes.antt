@@ -4,11 +4,16 @@ use Rattle.nt_calls.specs.declared.call.Grant.{Grant}
 use Rattle.nt_calls.specs.Moves.{one_if}
 use Rattle.nt_front.specs.declared.bell.Bell.{Bell}
 use Rattle.nt_front.specs.declared.wake.ToWake.{ToWake}
+use Rattle.nt_front.specs.declared.wake.Unwoken.{Unwoken}
 use Rattle.nt_front.specs.Marks.{AreMarks}
 
 -- exactly the threads that have one of these grants are to be woken
 abbrev pub Wakes : ToWake → List Grant → Type 0
 Wakes to_wake grants = MatchOption to_wake.marks (grants ≡ []) (λ marks. AreMarks marks grants)
+
+-- the waits that a call or tick ended, and nobody was woken of yet
+abbrev pub granted_of : Unwoken → List Grant
+granted_of unwoken = unwoken.left.value.grants
 
 -- how many of the first n threads have a mark
 abbrev pub marked_below : ℕ → List Bool → ℕ

@@ -11,7 +11,7 @@ ghost use Rattle.nt_answers.specs.Kinds.{is_answer};
 ghost use Rattle.nt_mail.specs.declared.knowledge.Asked.{Asked};
 ghost use Rattle.nt_mail.specs.Entries.{accepted};
 ghost use Rattle.nt_front.specs.Books.{Stands, WritesCall, WritesTick, IsEntered, IsFull, WasFull, HandsOut, WasHandedOut, gives_again, ledger};
-ghost use Rattle.nt_front.specs.Wakes.{Wakes};
+ghost use Rattle.nt_front.specs.Wakes.{Wakes, granted_of};
 
 use crate::hold::Hold;
 use crate::moments::floor_after;
@@ -99,6 +99,7 @@ impl<N: Named> Book<N> {
         ensures entered { IfOk result (λ r. IsEntered self.old caller.old (Asked.Call call) r.0 caller.new) }
         ensures answer { IfOk result (λ r. IsTrue (is_answer call r.0.result)) }
         ensures waits { IfOk result (λ r. pended r.0.result ≡ true → is_wait call ≡ true) }
+        ensures wakes { IfOk result (λ r. granted_of r.1 ≡ self.new.core.grants) }
         ensures full { (result ≡ Err JournalFull) ↔ IsFull self.old }
         ensures err { IfErr result (λ r. (r ≡ JournalFull) × WasFull N.front caller.old
             × (self.new ≡ self.old) × (caller.new ≡ caller.old)) }
@@ -128,7 +129,8 @@ impl<N: Named> Book<N> {
             entry + 1,
             self.life.core().grants(),
         );
-        Ok((Receipt { entry, result }, Unwoken::new()))
+        let unwoken = Unwoken::of(self.life.core());
+        Ok((Receipt { entry, result }, unwoken))
     }
 
     /// Makes a tick by the thread of this hold, and writes it with the waits that it ended. Answers whom they wake, too.
@@ -167,6 +169,7 @@ impl<N: Named> Book<N> {
         ensures entered { IfOk result (λ r. IsEntered self.old caller.old (Asked.Tick moment) r.0 caller.new) }
         ensures answer { IfOk result (λ r. IsTrue (is_done r.0.result)) }
         ensures waits { IfOk result (λ r. pended r.0.result ≡ false) }
+        ensures wakes { IfOk result (λ r. granted_of r.1 ≡ self.new.core.grants) }
         ensures full { (result ≡ Err JournalFull) ↔ IsFull self.old }
         ensures err { IfErr result (λ r. (r ≡ JournalFull) × WasFull N.front caller.old
             × (self.new ≡ self.old) × (caller.new ≡ caller.old)) }
@@ -199,7 +202,8 @@ impl<N: Named> Book<N> {
             self.life.core().grants(),
         );
         publish(mail, &mut self.dispatcher, moment, &result);
-        Ok((Receipt { entry, result }, Unwoken::new()))
+        let unwoken = Unwoken::of(self.life.core());
+        Ok((Receipt { entry, result }, unwoken))
     }
 
     /// The waits that the last call or tick ended.

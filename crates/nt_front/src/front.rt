@@ -1,12 +1,14 @@
 //! The front: the mail, the book behind its lock, and a condition variable for each thread.
 ghost use Rattle.std.specs.Prelude.{◌≡◌, ◌++◌, List, false};
 ghost use Rattle.std.specs.List.{list_any};
+ghost use Rattle.std.specs.Sync.Mutex.{mutex_guard_value};
 ghost use Rattle.nt_core.specs.Dispatcher.{state};
 ghost use Rattle.nt_mail.specs.declared.entry.Entry.{Entry};
 ghost use Rattle.nt_mail.specs.Entries.{Each};
 ghost use Rattle.nt_mail.specs.Journals.{is_renewal};
 ghost use Rattle.nt_front.specs.Runs.{IsLawfulHistory, IsLawfulRun, LeadTo};
 ghost use Rattle.nt_front.specs.Held.{IsAccounted};
+ghost use Rattle.nt_front.specs.Wakes.{granted_of};
 
 use crate::book::Book;
 use crate::hold::Held;
@@ -40,7 +42,9 @@ impl<N: Named> Drop for Front<N> {
 impl<N: Named> Front<N> {
     /// Gives the lock back after a call or tick, and then wakes whom it granted. Mostly it granted nobody.
     #[inline(always)]
-    pub(crate) fn give_back(&self, book: MutexGuard<'_, Book<N>>, unwoken: Unwoken) {
+    pub(crate) fn give_back(&self, book: MutexGuard<'_, Book<N>>, unwoken: Unwoken)
+        requires { granted_of unwoken ≡ (mutex_guard_value book).core.grants }
+    {
         match unwoken.unless_none(book.grants()) {
             Some(unwoken) => self.give_back_and_wake(book, unwoken),
             None => drop(book),
@@ -49,7 +53,9 @@ impl<N: Named> Front<N> {
 
     /// The same, where it granted somebody.
     #[inline(never)]
-    fn give_back_and_wake(&self, book: MutexGuard<'_, Book<N>>, unwoken: Unwoken) {
+    fn give_back_and_wake(&self, book: MutexGuard<'_, Book<N>>, unwoken: Unwoken)
+        requires { granted_of unwoken ≡ (mutex_guard_value book).core.grants }
+    {
         let to_wake = unwoken.to_wake(book.grants());
         drop(book);
         self.bells.ring(to_wake);

@@ -7,16 +7,16 @@ ghost use Rattle.std.specs.Prelude.{◌≡◌, [], length, IfOk, IfErr, IfSome, 
 ghost use Rattle.nt_status.specs.declared.refusal.Refusal.TheVariants.{Memory};
 ghost use Rattle.nt_front.specs.Marks.{IsMarkedToo, AreMarks};
 ghost use Rattle.nt_front.specs.Polls.{IsStill};
-ghost use Rattle.nt_front.specs.Wakes.{Wakes, marked_below, rings_for};
+ghost use Rattle.nt_front.specs.Wakes.{Wakes, granted_of, marked_below, rings_for};
 
 use crate::bell::{Bell, Seen};
 use crate::hold::Sleeper;
 use crate::named::Named;
-use nt_core::Grant;
+use nt_core::{Core, Grant};
 use nt_marks::FewMarks;
 use nt_status::{MAX_THREADS, Refusal, ThreadId};
 use std::alloc::{AllocError, Global};
-use std::marker::{Model, PhantomData};
+use std::marker::Model;
 use std::snapshot::Snapshot;
 use std::sync::Wait;
 
@@ -65,31 +65,39 @@ impl ToWake {
     }
 }
 
-/// That nobody was woken yet of whom a call or tick granted. It has no bytes, and must be spent, with the grants that were left.
+/// That nobody was woken yet of whom a call or tick granted. It has no bytes, and must be spent, with the grants that were left: contracts
+/// see which those are.
 pub(crate) struct Unwoken {
-    of: PhantomData<()>,
+    left: Snapshot<Core>,
 }
 
 impl Unwoken {
-    /// That of a call or tick that was made.
-    pub(crate) fn new() -> Unwoken {
-        Unwoken { of: PhantomData }
+    /// That of the call or tick that left the dispatcher so.
+    pub(crate) fn of(core: &Core) -> Unwoken
+        ensures { granted_of result ≡ core.now.grants }
+    {
+        Unwoken {
+            left: Snapshot::of(core),
+        }
     }
 
-    /// The threads of these grants.
+    /// The threads of these grants, which are those that were left.
     pub(crate) fn to_wake(self, grants: &[Grant]) -> ToWake
-        ensures { Wakes result grants.now }
+        requires { grants.now ≡ granted_of self }
+        ensures { Wakes result (granted_of self) }
     {
-        let Unwoken { of: _ } = self;
+        let Unwoken { left: _ } = self;
         ToWake::of(grants)
     }
 
     /// The same, or None where these grants are none, and so there is nobody to wake.
     pub(crate) fn unless_none(self, grants: &[Grant]) -> Option<Unwoken>
-        ensures { IfNone result (grants.now ≡ []) }
+        requires { grants.now ≡ granted_of self }
+        ensures none { IfNone result (granted_of self ≡ []) }
+        ensures some { IfSome result (λ unwoken. granted_of unwoken ≡ granted_of self) }
     {
         if grants.is_empty() {
-            let Unwoken { of: _ } = self;
+            let Unwoken { left: _ } = self;
             return None;
         }
         Some(self)
