@@ -6,10 +6,10 @@ use Rattle.std.proofs.lemmas.Bool.Decides.{nat_tests}
 use Rattle.nt_calls.specs.State.{State}
 use Rattle.nt_look.specs.Orders.{Plan, Point, Goes, Hangs, place}
 use Rattle.nt_look.proofs.Searching.{lane_there}
-use Rattle.nt_explore.specs.declared.met.Entry.{Entry}
+use Rattle.nt_explore.specs.declared.met.Visit.{Visit}
 use Rattle.nt_explore.specs.declared.loss.Edge.{Edge}
-use Rattle.nt_explore.specs.declared.explored.Verdict.{Verdict}
-use Rattle.nt_explore.specs.declared.explored.Verdict.TheVariants as verdict
+use Rattle.nt_explore.specs.declared.explored.OrderVerdict.{OrderVerdict}
+use Rattle.nt_explore.specs.declared.explored.OrderVerdict.TheVariants as verdict
 use Rattle.nt_explore.specs.Search.{beginning, AreDistinct, IsOneIf, SumsTo, CountsTo, CanGo, TellsBound, Learns}
 use Rattle.nt_explore.specs.Walk.{Tries}
 use Rattle.nt_explore.specs.Levels.{AreLooked, AreMet, LiesAt, then_met, one_more_if, IsFirst}
@@ -67,7 +67,7 @@ met_begins plan s = record {
   low = λ i below. omega arith;
 }
 
-pub met_more : (plan : Plan) (start : Point) (old new : List Entry) (pairs pairs' : List Edge) (looked hangs hangs' : ℕ) (hung : Bool) (point : ℕ → Point) (met : ℕ → ℕ) → looked < length old
+pub met_more : (plan : Plan) (start : Point) (old new : List Visit) (pairs pairs' : List Edge) (looked hangs hangs' : ℕ) (hung : Bool) (point : ℕ → Point) (met : ℕ → ℕ) → looked < length old
     → (hung ≡ true ↔ Hangs plan (point looked)) → hangs' ≡ one_more_if hung hangs
     → (tries : Tries plan start old new pairs pairs' (point looked) looked (length plan) point)
     → AreMet plan start looked (length old) (length pairs) hangs point met
@@ -194,17 +194,17 @@ left_more most met looked states within few so = (
 
 -- ---- where the bound is told of
 
-pub tells_bound : (plan : Plan) (s : State) (entries : List Entry) (most looked states hangs : ℕ) (first : Option ℕ) (point : ℕ → Point) (told : Verdict)
-    → AreLooked plan (beginning plan s) entries looked first point → CountsTo (λ i. Hangs plan (point i)) looked hangs
-    → states ≡ length entries → (looked < states → most < states) → LiesAt entries looked first told → TellsBound plan (beginning plan s) (point looked) most looked states hangs told
-tells_bound plan s entries most looked states hangs first point (verdict.Met level) so count all over lies = record {
+pub tells_bound : (plan : Plan) (s : State) (visits : List Visit) (most looked states hangs : ℕ) (first : Option ℕ) (point : ℕ → Point) (told : OrderVerdict)
+    → AreLooked plan (beginning plan s) visits looked first point → CountsTo (λ i. Hangs plan (point i)) looked hangs
+    → states ≡ length visits → (looked < states → most < states) → LiesAt visits looked first told → TellsBound plan (beginning plan s) (point looked) most looked states hangs told
+tells_bound plan s visits most looked states hangs first point (verdict.Met level) so count all over lies = record {
   many = over (let more = lies.1 in omega (arith, more, all));
   left = let more = lies.1 in omega (arith, more, all);
   none = counts_none (λ i. Hangs plan (point i)) looked hangs (subst (IsFirst plan point looked) lies.0 so.told) count;
   deep = (reverse lies.2, length-reverse lies.2 ∙ lies.3, order_of plan (beginning plan s) lies.2 (point looked) (lies.4 plan (beginning plan s) point so.walk));
 }
-tells_bound plan s entries most looked states hangs first point verdict.None so count all over lies = tt
-tells_bound plan s entries most looked states hangs first point (verdict.Hangs lanes loss) so count all over lies = tt
+tells_bound plan s visits most looked states hangs first point verdict.None so count all over lies = tt
+tells_bound plan s visits most looked states hangs first point (verdict.Hangs lanes loss) so count all over lies = tt
 
 -- ---- what the watcher learns
 

@@ -3,13 +3,13 @@ use Rattle.std.proofs.Common.{◌≡◌, ℕ, suc, ◌+◌, List, sym, ap, ◌�
 use Rattle.nt_waits.specs.Waits.{next_after}
 use Rattle.nt_explore.specs.Hash.{folded, mixed_thread, mixed_queue}
 
--- the next place
+-- the next position
 pub folded_more : (step : ℕ → ℕ → ℕ) (hash n so_far next : ℕ) → so_far ≡ folded step hash n → next ≡ step so_far n → next ≡ folded step hash (n + 1)
 folded_more step hash n so_far next is one =
     let more : suc n ≡ n + 1 = omega arith in
     one ∙ (ap (λ (h : ℕ). step h n) is ∙ ap (λ (k : ℕ). folded step hash k) more)
 
--- the last place
+-- the last position
 pub folded_all : (step : ℕ → ℕ → ℕ) (hash n count so_far : ℕ) → so_far ≡ folded step hash n → n ≡ count → so_far ≡ folded step hash count
 folded_all step hash n count so_far is all = is ∙ ap (λ (k : ℕ). folded step hash k) all
 

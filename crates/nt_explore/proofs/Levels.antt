@@ -10,14 +10,14 @@ use Rattle.nt_calls.specs.State.{pends}
 use Rattle.nt_look.specs.Hangs.{marked}
 use Rattle.nt_look.specs.Orders.{Plan, Point, Goes, Order, Hangs, IsLost, NoneHangs, NoneHangsWithin, IsShortestHang, IsShortestLoss, steps, place}
 use Rattle.nt_look.proofs.Searching.{steps_counted, lane_there}
-use Rattle.nt_explore.specs.declared.met.Entry.{Entry}
+use Rattle.nt_explore.specs.declared.met.Visit.{Visit}
 use Rattle.nt_explore.specs.Search.{beginning}
 use Rattle.nt_explore.specs.Walk.{parent_of, lane_of, IsWalk, HasPoint, Tries, Arrives}
 use Rattle.nt_explore.specs.declared.loss.Edge.{Edge}
 use Rattle.nt_explore.specs.declared.loss.Edges.{Edges}
 use Rattle.nt_explore.specs.Levels.{IsFirst, AreLooked, AreEdges, IsEdge, IsRow, IsColumn, IsFirstMark, IsFirstLost, IsFirstLoss, IsLostThere, IsSearch, AreMet, IsCounted, first_then, passed}
 use Rattle.nt_explore.proofs.Losing.{below_or, AreOnward, lost_forth, lost_back, passed_tells, length_passed}
-use Rattle.nt_explore.proofs.Walks.{deeper, goes_wide, one_entry, steps_none}
+use Rattle.nt_explore.proofs.Walks.{deeper, goes_wide, one_visit, steps_none}
 use Rattle.nt_explore.proofs.Ways.{order_of}
 use Rattle.nt_explore.proofs.Counting.{met_begins}
 
@@ -26,7 +26,7 @@ use Rattle.nt_explore.proofs.Counting.{met_begins}
 pub begins_wide : (plan : Plan) (s : State) → length (beginning plan s).at ≡ length plan
 begins_wide plan s = length-replicate (length plan) 0
 
-pub begins : (plan : Plan) (s : State) → AreLooked plan (beginning plan s) one_entry 0 None (λ i. beginning plan s)
+pub begins : (plan : Plan) (s : State) → AreLooked plan (beginning plan s) one_visit 0 None (λ i. beginning plan s)
 begins plan s = record {
   walk = record {
     some = omega arith;
@@ -63,7 +63,7 @@ first_more plan point points looked hung (Some h) same told is = (
   λ i below hangs. let before = is.0 in is.2 i below (subst (Hangs plan) (same i (omega (arith, below, before))) hangs),
 )
 
-pub look_more : (plan : Plan) (start : Point) (old new : List Entry) (looked : ℕ) (hung : Bool) (first : Option ℕ) (point : ℕ → Point) → AreLooked plan start old looked first point → looked < length old → (hung ≡ true ↔ Hangs plan (point looked)) → (pairs more : List Edge) → (tries : Tries plan start old new pairs more (point looked) looked (length plan) point) → AreLooked plan start new (looked + 1) (first_then hung looked first) tries.points
+pub look_more : (plan : Plan) (start : Point) (old new : List Visit) (looked : ℕ) (hung : Bool) (first : Option ℕ) (point : ℕ → Point) → AreLooked plan start old looked first point → looked < length old → (hung ≡ true ↔ Hangs plan (point looked)) → (pairs more : List Edge) → (tries : Tries plan start old new pairs more (point looked) looked (length plan) point) → AreLooked plan start new (looked + 1) (first_then hung looked first) tries.points
 look_more plan start old new looked hung first point so within told pairs more tries = record {
   walk = tries.grows.walk;
   within = omega (arith, within, longer);
@@ -118,53 +118,53 @@ look_more plan start old new looked hung first point so within told pairs more t
 
 -- ---- what an order comes to
 
-reach : (plan : Plan) (entries : List Entry) (point : ℕ → Point) (most : ℕ) → ((i lane : ℕ) (q : Point) → i < length entries → steps (point i).at < most → Goes plan (point i) lane q → HasPoint entries point q) → (lanes : List ℕ) (a p : Point) → length a.at ≡ length plan → HasPoint entries point a → steps a.at + length lanes ≤ most → Order plan a lanes p → HasPoint entries point p
-reach plan entries point most closed [] a p wide has deep order = (has.0, has.1, has.2 ∙ sym order)
-reach plan entries point most closed (lane ∷ lanes) a p wide has deep order =
+reach : (plan : Plan) (visits : List Visit) (point : ℕ → Point) (most : ℕ) → ((i lane : ℕ) (q : Point) → i < length visits → steps (point i).at < most → Goes plan (point i) lane q → HasPoint visits point q) → (lanes : List ℕ) (a p : Point) → length a.at ≡ length plan → HasPoint visits point a → steps a.at + length lanes ≤ most → Order plan a lanes p → HasPoint visits point p
+reach plan visits point most closed [] a p wide has deep order = (has.0, has.1, has.2 ∙ sym order)
+reach plan visits point most closed (lane ∷ lanes) a p wide has deep order =
     let mid : Point = order.0 in
     let goes : Goes plan a lane mid = order.1 in
     let at = ap (λ (z : Point). steps z.at) has.2 in
     let here : Goes plan (point has.0) lane mid = subst (λ (z : Point). Goes plan z lane mid) (sym has.2) goes in
     let next = closed has.0 lane mid has.1 (omega (arith, at, deep)) here in
     let one = deeper plan a mid lane wide goes in
-    reach plan entries point most closed lanes mid p (goes_wide plan a lane mid goes wide) next (omega (arith, one, deep)) order.2
+    reach plan visits point most closed lanes mid p (goes_wide plan a lane mid goes wide) next (omega (arith, one, deep)) order.2
 
-pub begun : (plan : Plan) (s : State) (entries : List Entry) (looked : ℕ) (first : Option ℕ) (point : ℕ → Point) → AreLooked plan (beginning plan s) entries looked first point → HasPoint entries point (beginning plan s)
-begun plan s entries looked first point so = (0, so.walk.some, so.walk.first)
+pub begun : (plan : Plan) (s : State) (visits : List Visit) (looked : ℕ) (first : Option ℕ) (point : ℕ → Point) → AreLooked plan (beginning plan s) visits looked first point → HasPoint visits point (beginning plan s)
+begun plan s visits looked first point so = (0, so.walk.some, so.walk.first)
 
 counted : (plan : Plan) (s : State) (lanes : List ℕ) (p : Point) → Order plan (beginning plan s) lanes p → steps p.at ≡ length lanes
 counted plan s lanes p order = let it = steps_counted plan lanes (beginning plan s) p (begins_wide plan s) order in let none = steps_none (length plan) in omega (arith, it, none)
 
 -- whoever is less deep comes before
-before_of : (entries : List Entry) (point : ℕ → Point) (i h : ℕ) → ((i j : ℕ) → i ≤ j → j < length entries → steps (point i).at ≤ steps (point j).at) → i < length entries → steps (point i).at < steps (point h).at → i < h
-before_of entries point i h rising below less = go (ltb i h) refl
+before_of : (visits : List Visit) (point : ℕ → Point) (i h : ℕ) → ((i j : ℕ) → i ≤ j → j < length visits → steps (point i).at ≤ steps (point j).at) → i < length visits → steps (point i).at < steps (point h).at → i < h
+before_of visits point i h rising below less = go (ltb i h) refl
   where
     go : (b : Bool) → ltb i h ≡ b → i < h
     go true e = grind (arith, nat_tests, e)
     go false e = let up = rising h i (grind (arith, nat_tests, e)) below in absurd (omega (arith, up, less))
 
 -- an order shorter than the depth of a point comes to one before it, where all before it were looked at
-come_before : (plan : Plan) (s : State) (entries : List Entry) (looked h : ℕ) (first : Option ℕ) (point : ℕ → Point) → AreLooked plan (beginning plan s) entries looked first point → h ≤ looked → h < length entries → (lanes : List ℕ) (p : Point) → length lanes < steps (point h).at → Order plan (beginning plan s) lanes p → (j : ℕ) × (j < h) × (point j ≡ p)
-come_before plan s entries looked h first point so within there lanes p short order =
+come_before : (plan : Plan) (s : State) (visits : List Visit) (looked h : ℕ) (first : Option ℕ) (point : ℕ → Point) → AreLooked plan (beginning plan s) visits looked first point → h ≤ looked → h < length visits → (lanes : List ℕ) (p : Point) → length lanes < steps (point h).at → Order plan (beginning plan s) lanes p → (j : ℕ) × (j < h) × (point j ≡ p)
+come_before plan s visits looked h first point so within there lanes p short order =
     let none = steps_none (length plan) in
-    let has = reach plan entries point (steps (point h).at) (λ i lane q below less goes. so.closed i lane q (let before = before_of entries point i h so.rising below less in omega (arith, before, within)) goes) lanes (beginning plan s) p (begins_wide plan s) (begun plan s entries looked first point so) (omega (arith, none, short)) order in
+    let has = reach plan visits point (steps (point h).at) (λ i lane q below less goes. so.closed i lane q (let before = before_of visits point i h so.rising below less in omega (arith, before, within)) goes) lanes (beginning plan s) p (begins_wide plan s) (begun plan s visits looked first point so) (omega (arith, none, short)) order in
     let deep = counted plan s lanes p order in
     let at = ap (λ (z : Point). steps z.at) has.2 in
-    (has.0, before_of entries point has.0 h so.rising has.1 (omega (arith, deep, at, short)), has.2)
+    (has.0, before_of visits point has.0 h so.rising has.1 (omega (arith, deep, at, short)), has.2)
 
-pub none_hangs : (plan : Plan) (s : State) (entries : List Entry) (looked : ℕ) (point : ℕ → Point) → AreLooked plan (beginning plan s) entries looked None point → length entries ≤ looked → NoneHangs plan (beginning plan s)
-none_hangs plan s entries looked point so all lanes p order hangs =
-    let has = reach plan entries point (steps (beginning plan s).at + length lanes) (λ i lane q below less goes. so.closed i lane q (omega (arith, below, all)) goes) lanes (beginning plan s) p (begins_wide plan s) (begun plan s entries looked None point so) (omega arith) order in
+pub none_hangs : (plan : Plan) (s : State) (visits : List Visit) (looked : ℕ) (point : ℕ → Point) → AreLooked plan (beginning plan s) visits looked None point → length visits ≤ looked → NoneHangs plan (beginning plan s)
+none_hangs plan s visits looked point so all lanes p order hangs =
+    let has = reach plan visits point (steps (beginning plan s).at + length lanes) (λ i lane q below less goes. so.closed i lane q (omega (arith, below, all)) goes) lanes (beginning plan s) p (begins_wide plan s) (begun plan s visits looked None point so) (omega arith) order in
     let inside = has.1 in
     so.told has.0 (omega (arith, inside, all)) (subst (Hangs plan) (sym has.2) hangs)
 
-pub none_within : (plan : Plan) (s : State) (entries : List Entry) (looked level : ℕ) (point : ℕ → Point) → AreLooked plan (beginning plan s) entries looked None point → looked < length entries → level < steps (point looked).at → NoneHangsWithin plan (beginning plan s) level
-none_within plan s entries looked level point so more deep lanes p short order hangs =
-    let has = come_before plan s entries looked looked None point so (omega arith) more lanes p (omega (arith, deep, short)) order in
+pub none_within : (plan : Plan) (s : State) (visits : List Visit) (looked level : ℕ) (point : ℕ → Point) → AreLooked plan (beginning plan s) visits looked None point → looked < length visits → level < steps (point looked).at → NoneHangsWithin plan (beginning plan s) level
+none_within plan s visits looked level point so more deep lanes p short order hangs =
+    let has = come_before plan s visits looked looked None point so (omega arith) more lanes p (omega (arith, deep, short)) order in
     so.told has.0 has.1 (subst (Hangs plan) (sym has.2) hangs)
 
-pub shortest : (plan : Plan) (s : State) (entries : List Entry) (looked h : ℕ) (way : List ℕ) (point : ℕ → Point) → AreLooked plan (beginning plan s) entries looked (Some h) point → Arrives plan (beginning plan s) way (point h) → IsShortestHang plan (beginning plan s) (reverse way)
-shortest plan s entries looked h way point so came =
+pub shortest : (plan : Plan) (s : State) (visits : List Visit) (looked h : ℕ) (way : List ℕ) (point : ℕ → Point) → AreLooked plan (beginning plan s) visits looked (Some h) point → Arrives plan (beginning plan s) way (point h) → IsShortestHang plan (beginning plan s) (reverse way)
+shortest plan s visits looked h way point so came =
     let order = order_of plan (beginning plan s) way (point h) came in
     let deep = counted plan s (reverse way) (point h) order in
     let within = so.within in
@@ -174,7 +174,7 @@ shortest plan s entries looked h way point so came =
       order = order;
       hangs = so.told.1;
       least = λ others p short order' hangs.
-          let has = come_before plan s entries looked h (Some h) point so (omega (arith, before)) (omega (arith, before, within)) others p (omega (arith, short, deep)) order' in
+          let has = come_before plan s visits looked h (Some h) point so (omega (arith, before)) (omega (arith, before, within)) others p (omega (arith, short, deep)) order' in
           so.told.2 has.0 has.1 (subst (Hangs plan) (sym has.2) hangs);
     }
 
@@ -184,7 +184,7 @@ depth_of plan s way p came = counted plan s (reverse way) p (order_of plan (begi
 
 -- ---- the search goes on
 
-edges_more : (plan : Plan) (start : Point) (old new : List Entry) (threads looked : ℕ) (pairs more : List Edge) (waits row : List Bool) (point : ℕ → Point)
+edges_more : (plan : Plan) (start : Point) (old new : List Visit) (threads looked : ℕ) (pairs more : List Edge) (waits row : List Bool) (point : ℕ → Point)
     → IsWalk plan start old point
     → looked < length old
     → AreEdges plan threads pairs waits looked (length old) point
@@ -261,7 +261,7 @@ lost_more plan point points looked true None same gone told lost = let it = gone
 lost_more plan point points looked false None same gone told lost = tt
 lost_more plan point points looked hung (Some h) same gone told lost = let before = told.0 in (lost.0, subst (λ (p : Point). IsLost plan p lost.0) (sym (same h (omega (arith, before)))) lost.1)
 
-pub search_more : (plan : Plan) (start : Point) (old new : List Entry) (edges more : Edges) (looked : ℕ) (hung : Bool) (first last : Option ℕ) (p : Point) → looked < length old
+pub search_more : (plan : Plan) (start : Point) (old new : List Visit) (edges more : Edges) (looked : ℕ) (hung : Bool) (first last : Option ℕ) (p : Point) → looked < length old
     → more.threads ≡ edges.threads
     → ((point : ℕ → Point) → IsWalk plan start old point → p ≡ point looked)
     → (hung ≡ true ↔ Hangs plan p)
@@ -286,7 +286,7 @@ search_more plan start old new edges more looked hung first last p below threads
       subst (IsLostThere plan tried.points) (sym becomes) (lost_more plan point tried.points looked hung first (λ i less. tried.grows.same i (omega (arith, less, below))) (subst (λ (z : Point). hung ≡ true → (t : ℕ) × IsLost plan z t) here gone) so.told search.3),
     )
 
-pub search_begins : (plan : Plan) (s : State) (edges : Edges) → edges.threads ≡ s.threads → edges.pairs.items ≡ [] → edges.waits.items ≡ [] → IsCounted plan (beginning plan s) one_entry edges 0 (record { hangs = 0; first = None }) (λ i. 1)
+pub search_begins : (plan : Plan) (s : State) (edges : Edges) → edges.threads ≡ s.threads → edges.pairs.items ≡ [] → edges.waits.items ≡ [] → IsCounted plan (beginning plan s) one_visit edges 0 (record { hangs = 0; first = None }) (λ i. 1)
 search_begins plan s edges threads pairs waits = (
   (
     (λ i. beginning plan s),
@@ -307,49 +307,49 @@ search_begins plan s edges threads pairs waits = (
 
 -- ---- what it has come to
 
-pub hangs_there : (plan : Plan) (s : State) (entries : List Entry) (edges : Edges) (looked h : ℕ) (way lanes : List ℕ) → lanes ≡ reverse way → ((point : ℕ → Point) → IsWalk plan (beginning plan s) entries point → Arrives plan (beginning plan s) way (point h)) → IsSearch plan (beginning plan s) entries edges looked (Some h) → IsShortestHang plan (beginning plan s) lanes
-hangs_there plan s entries edges looked h way lanes is came search = subst (IsShortestHang plan (beginning plan s)) (sym is) (shortest plan s entries looked h way search.0 search.1 (came search.0 search.1.walk))
+pub hangs_there : (plan : Plan) (s : State) (visits : List Visit) (edges : Edges) (looked h : ℕ) (way lanes : List ℕ) → lanes ≡ reverse way → ((point : ℕ → Point) → IsWalk plan (beginning plan s) visits point → Arrives plan (beginning plan s) way (point h)) → IsSearch plan (beginning plan s) visits edges looked (Some h) → IsShortestHang plan (beginning plan s) lanes
+hangs_there plan s visits edges looked h way lanes is came search = subst (IsShortestHang plan (beginning plan s)) (sym is) (shortest plan s visits looked h way search.0 search.1 (came search.0 search.1.walk))
 
-pub none_there : (plan : Plan) (s : State) (entries : List Entry) (edges : Edges) (looked : ℕ) → length entries ≤ looked → IsSearch plan (beginning plan s) entries edges looked None → NoneHangs plan (beginning plan s)
-none_there plan s entries edges looked all search = none_hangs plan s entries looked search.0 search.1 all
+pub none_there : (plan : Plan) (s : State) (visits : List Visit) (edges : Edges) (looked : ℕ) → length visits ≤ looked → IsSearch plan (beginning plan s) visits edges looked None → NoneHangs plan (beginning plan s)
+none_there plan s visits edges looked all search = none_hangs plan s visits looked search.0 search.1 all
 
-pub bound_there : (plan : Plan) (s : State) (entries : List Entry) (edges : Edges) (looked level : ℕ) (way : List ℕ) → 0 < looked → looked < length entries → level ≡ length way - 1 → ((point : ℕ → Point) → IsWalk plan (beginning plan s) entries point → Arrives plan (beginning plan s) way (point looked)) → IsSearch plan (beginning plan s) entries edges looked None → NoneHangsWithin plan (beginning plan s) level
-bound_there plan s entries edges looked level way some more is came search =
+pub bound_there : (plan : Plan) (s : State) (visits : List Visit) (edges : Edges) (looked level : ℕ) (way : List ℕ) → 0 < looked → looked < length visits → level ≡ length way - 1 → ((point : ℕ → Point) → IsWalk plan (beginning plan s) visits point → Arrives plan (beginning plan s) way (point looked)) → IsSearch plan (beginning plan s) visits edges looked None → NoneHangsWithin plan (beginning plan s) level
+bound_there plan s visits edges looked level way some more is came search =
     let point : ℕ → Point = search.0 in
     let walk = search.1.walk in
     let deep = depth_of plan s way (point looked) (came point walk) in
     let count = length-reverse way in
     let before = walk.behind looked some more in
-    let one = deeper plan (point (parent_of entries looked)) (point looked) (lane_of entries looked) (walk.wide (parent_of entries looked) (omega (arith, before, more))) (walk.came looked some more) in
-    none_within plan s entries looked level point search.1 more (omega (arith, deep, count, one, is))
+    let one = deeper plan (point (parent_of visits looked)) (point looked) (lane_of visits looked) (walk.wide (parent_of visits looked) (omega (arith, before, more))) (walk.came looked some more) in
+    none_within plan s visits looked level point search.1 more (omega (arith, deep, count, one, is))
 
 -- ---- since when a wait was lost
 
-onward : (plan : Plan) (start : Point) (entries : List Entry) (threads looked : ℕ) (pairs : List Edge) (waits : List Bool) (first : Option ℕ) (point : ℕ → Point) → AreLooked plan start entries looked first point → AreEdges plan threads pairs waits looked (length entries) point → AreOnward plan point (length entries) pairs
-onward plan start entries threads looked pairs waits first point so edges e has =
+onward : (plan : Plan) (start : Point) (visits : List Visit) (threads looked : ℕ) (pairs : List Edge) (waits : List Bool) (first : Option ℕ) (point : ℕ → Point) → AreLooked plan start visits looked first point → AreEdges plan threads pairs waits looked (length visits) point → AreOnward plan point (length visits) pairs
+onward plan start visits threads looked pairs waits first point so edges e has =
     let it = edges.goes e has in
     let from = it.0 in
     let within = so.within in
     let one = deeper plan (point e.from) (point e.to) it.2 (so.walk.wide e.from (omega (arith, from, within))) it.3 in
-    (before_of entries point e.from e.to so.rising (omega (arith, from, within)) (omega (arith, one)), it.1, it.2, it.3)
+    (before_of visits point e.from e.to so.rising (omega (arith, from, within)) (omega (arith, one)), it.1, it.2, it.3)
 
 -- what the marks of a thread tell
-lost_told : (plan : Plan) (start : Point) (entries : List Entry) (threads t : ℕ) (pairs : List Edge) (waits column : List Bool) (first : Option ℕ) (point : ℕ → Point) → t < threads → AreLooked plan start entries (length entries) first point → AreEdges plan threads pairs waits (length entries) (length entries) point → IsColumn waits column threads (length entries) t
-    → (i : ℕ) → i < length entries → (marked (passed pairs column) i ≡ true) ↔ IsLost plan (point i) t
-lost_told plan start entries threads t pairs waits column first point inside so edges row i below =
-    let on = onward plan start entries threads (length entries) pairs waits first point so edges in
-    let it = passed_tells plan point (length entries) t 0 pairs column row.count (λ j there. row.told j there ∙ edges.told j t there inside) edges.rises on (λ j lane q low there goes. edges.all j lane q there goes) (λ e has. omega arith) i below in (
-      λ m. lost_forth plan point (length entries) t 0 pairs i (λ j lane q low there goes. edges.all j lane q there goes) (omega arith) below (it.0 m),
-      λ lost. it.1 (lost_back plan point (length entries) t pairs i on lost),
+lost_told : (plan : Plan) (start : Point) (visits : List Visit) (threads t : ℕ) (pairs : List Edge) (waits column : List Bool) (first : Option ℕ) (point : ℕ → Point) → t < threads → AreLooked plan start visits (length visits) first point → AreEdges plan threads pairs waits (length visits) (length visits) point → IsColumn waits column threads (length visits) t
+    → (i : ℕ) → i < length visits → (marked (passed pairs column) i ≡ true) ↔ IsLost plan (point i) t
+lost_told plan start visits threads t pairs waits column first point inside so edges row i below =
+    let on = onward plan start visits threads (length visits) pairs waits first point so edges in
+    let it = passed_tells plan point (length visits) t 0 pairs column row.count (λ j there. row.told j there ∙ edges.told j t there inside) edges.rises on (λ j lane q low there goes. edges.all j lane q there goes) (λ e has. omega arith) i below in (
+      λ m. lost_forth plan point (length visits) t 0 pairs i (λ j lane q low there goes. edges.all j lane q there goes) (omega arith) below (it.0 m),
+      λ lost. it.1 (lost_back plan point (length visits) t pairs i on lost),
     )
 
-pub first_told : (plan : Plan) (start : Point) (entries : List Entry) (threads states t : ℕ) (pairs : List Edge) (waits column : List Bool) (first found : Option ℕ) (point : ℕ → Point) → t < threads → (length waits ≡ threads * states → IsColumn waits column threads states t) → IsFirstMark (passed pairs column) found
-    → length entries ≡ states → AreLooked plan start entries states first point → AreEdges plan threads pairs waits states states point → IsFirstLost plan point states t found
-first_told plan start entries threads states t pairs waits column first found point inside row mark count so edges = go found mark
+pub first_told : (plan : Plan) (start : Point) (visits : List Visit) (threads states t : ℕ) (pairs : List Edge) (waits column : List Bool) (first found : Option ℕ) (point : ℕ → Point) → t < threads → (length waits ≡ threads * states → IsColumn waits column threads states t) → IsFirstMark (passed pairs column) found
+    → length visits ≡ states → AreLooked plan start visits states first point → AreEdges plan threads pairs waits states states point → IsFirstLost plan point states t found
+first_told plan start visits threads states t pairs waits column first found point inside row mark count so edges = go found mark
   where
     told : (i : ℕ) → i < states → (marked (passed pairs column) i ≡ true) ↔ IsLost plan (point i) t
-    told = subst (λ (n : ℕ). AreLooked plan start entries n first point → AreEdges plan threads pairs waits n n point → IsColumn waits column threads n t → (i : ℕ) → i < n → (marked (passed pairs column) i ≡ true) ↔ IsLost plan (point i) t) count
-        (lost_told plan start entries threads t pairs waits column first point inside) so edges (row edges.count)
+    told = subst (λ (n : ℕ). AreLooked plan start visits n first point → AreEdges plan threads pairs waits n n point → IsColumn waits column threads n t → (i : ℕ) → i < n → (marked (passed pairs column) i ≡ true) ↔ IsLost plan (point i) t) count
+        (lost_told plan start visits threads t pairs waits column first point inside) so edges (row edges.count)
 
     go : (found : Option ℕ) → IsFirstMark (passed pairs column) found → IsFirstLost plan point states t found
     go None none = λ j below lost. false≢true (sym (none j) ∙ (told j below).1 lost)
@@ -360,10 +360,10 @@ first_told plan start entries threads states t pairs waits column first found po
           λ j below lost. false≢true (sym (it.2 j below) ∙ (told j (omega (arith, below, there))).1 lost),
         )
 
-pub loss_there : (plan : Plan) (s : State) (entries : List Entry) (edges : Edges) (h t : ℕ) (way lanes : List ℕ) (first : Option ℕ) (point : ℕ → Point) → lanes ≡ reverse way → Arrives plan (beginning plan s) way (point h)
-    → AreLooked plan (beginning plan s) entries (length entries) first point → AreEdges plan edges.threads edges.pairs.items edges.waits.items (length entries) (length entries) point
-    → IsFirstLoss plan point (length entries) edges.threads (Some (h, t)) → IsShortestLoss plan (beginning plan s) lanes t
-loss_there plan s entries edges h t way lanes first point is came so told lost =
+pub loss_there : (plan : Plan) (s : State) (visits : List Visit) (edges : Edges) (h t : ℕ) (way lanes : List ℕ) (first : Option ℕ) (point : ℕ → Point) → lanes ≡ reverse way → Arrives plan (beginning plan s) way (point h)
+    → AreLooked plan (beginning plan s) visits (length visits) first point → AreEdges plan edges.threads edges.pairs.items edges.waits.items (length visits) (length visits) point
+    → IsFirstLoss plan point (length visits) edges.threads (Some (h, t)) → IsShortestLoss plan (beginning plan s) lanes t
+loss_there plan s visits edges h t way lanes first point is came so told lost =
     let order = order_of plan (beginning plan s) way (point h) came in
     let deep = counted plan s (reverse way) (point h) order in
     let top = lost.0 in
@@ -372,15 +372,15 @@ loss_there plan s entries edges h t way lanes first point is came so told lost =
       order = order;
       lost = lost.1;
       least = λ others p u short order' gone.
-          let has = come_before plan s entries (length entries) h first point so (omega (arith, top)) top others p (omega (arith, short, deep)) order' in
+          let has = come_before plan s visits (length visits) h first point so (omega (arith, top)) top others p (omega (arith, short, deep)) order' in
           let before = has.1 in
           let gone' : IsLost plan (point has.0) u = subst (λ (z : Point). IsLost plan z u) (sym has.2) gone in
           lost.2 has.0 u has.1 (told.known has.0 u (omega (arith, before, top)) (gone' [] (point has.0) refl)) gone';
     })
 
 -- a hang loses a wait, so that there is a first loss
-pub never_none : (plan : Plan) (start : Point) (entries : List Entry) (edges : Edges) (h : ℕ) (search : IsSearch plan start entries edges (length entries) (Some h)) → IsFirstLoss plan search.0 (length entries) edges.threads None → ⊥
-never_none plan start entries edges h search none =
+pub never_none : (plan : Plan) (start : Point) (visits : List Visit) (edges : Edges) (h : ℕ) (search : IsSearch plan start visits edges (length visits) (Some h)) → IsFirstLoss plan search.0 (length visits) edges.threads None → ⊥
+never_none plan start visits edges h search none =
     let there = search.1.told.0 in
     let lost = search.3 in
     none h lost.0 there (search.2.known h lost.0 there (lost.1 [] (search.0 h) refl)) lost.1

@@ -5,8 +5,8 @@ use Rattle.std.proofs.lemmas.Bool.Decides.{nat_tests}
 use Rattle.std.proofs.Math.Seq.{take-append_seam}
 use Rattle.std.proofs.lemmas.List.{length-set, length_push, get_or-set_same, get_or-set_other, get_or_push, get_or_append_left}
 use Rattle.nt_look.specs.Orders.{Plan, Point}
-use Rattle.nt_explore.specs.declared.met.Entry.{Entry}
-use Rattle.nt_explore.specs.Walk.{no_entry, hash_at, IsOther, IsFound}
+use Rattle.nt_explore.specs.declared.met.Visit.{Visit}
+use Rattle.nt_explore.specs.Walk.{no_visit, hash_at, IsOther, IsFound}
 use Rattle.nt_explore.specs.Slots.{slot_from, slot_after, slot_at, NoneFree, StandsIn, PutsIn, used, AreInSlots, IsTable}
 use Rattle.nt_explore.proofs.Losing.{below_or}
 use Rattle.nt_explore.proofs.Walks.{behind_more}
@@ -141,31 +141,31 @@ written len old new same is = ap (λ (k : ℕ). take k (new ++ drop (length new)
 
 -- ---- one state more
 
-pub in_slots_none : (entries : List Entry) (slots : List ℕ) → AreInSlots entries 0 slots
-in_slots_none entries slots i some below = absurd (omega (arith, below))
+pub in_slots_none : (visits : List Visit) (slots : List ℕ) → AreInSlots visits 0 slots
+in_slots_none visits slots i some below = absurd (omega (arith, below))
 
-pub in_slots_more : (entries : List Entry) (n : ℕ) (old new : List ℕ) → AreInSlots entries n old → PutsIn old new (length old) (hash_at entries n) (n + 1) → AreInSlots entries (n + 1) new
-in_slots_more entries n old new so puts i some below = go (below_or i n below)
+pub in_slots_more : (visits : List Visit) (n : ℕ) (old new : List ℕ) → AreInSlots visits n old → PutsIn old new (length old) (hash_at visits n) (n + 1) → AreInSlots visits (n + 1) new
+in_slots_more visits n old new so puts i some below = go (below_or i n below)
   where
-    go : (i < n) ⊎ (i ≡ n) → StandsIn new (length new) (hash_at entries i) (i + 1)
-    go (inl before) = stands_still old new (hash_at entries n) (n + 1) (hash_at entries i) i puts (so i some before)
-    go (inr last) = subst (λ (k : ℕ). StandsIn new (length new) (hash_at entries k) (k + 1)) (sym last) (stands_now old new (hash_at entries n) (n + 1) puts)
+    go : (i < n) ⊎ (i ≡ n) → StandsIn new (length new) (hash_at visits i) (i + 1)
+    go (inl before) = stands_still old new (hash_at visits n) (n + 1) (hash_at visits i) i puts (so i some before)
+    go (inr last) = subst (λ (k : ℕ). StandsIn new (length new) (hash_at visits k) (k + 1)) (sym last) (stands_now old new (hash_at visits n) (n + 1) puts)
 
-pub table_more : (entries : List Entry) (e : Entry) (old new : List ℕ) → e.parent < length entries → IsTable entries old → PutsIn old new (length old) e.hash (length entries + 1) → IsTable (entries ++ e ∷ []) new
-table_more entries e old new before so puts =
-    let count = length_push entries e in
-    let more = puts_used old new e.hash (length entries + 1) puts in
+pub table_more : (visits : List Visit) (e : Visit) (old new : List ℕ) → e.parent < length visits → IsTable visits old → PutsIn old new (length old) e.hash (length visits + 1) → IsTable (visits ++ e ∷ []) new
+table_more visits e old new before so puts =
+    let count = length_push visits e in
+    let more = puts_used old new e.hash (length visits + 1) puts in
     let few = so.few in
-    let last : hash_at (entries ++ e ∷ []) (length entries) ≡ e.hash = ap (λ (x : Entry). x.hash) (get_or_push entries e no_entry (length entries) refl) in
+    let last : hash_at (visits ++ e ∷ []) (length visits) ≡ e.hash = ap (λ (x : Visit). x.hash) (get_or_push visits e no_visit (length visits) refl) in
     record {
-      behind = behind_more entries e before so.behind;
-      stands = subst (λ (n : ℕ). AreInSlots (entries ++ e ∷ []) n new) (sym count) (in_slots_more (entries ++ e ∷ []) (length entries) old new
-          (λ i some below. subst (λ (h : ℕ). StandsIn old (length old) h (i + 1)) (sym (ap (λ (x : Entry). x.hash) (get_or_append_left entries (e ∷ []) no_entry i below))) (so.stands i some below))
-          (subst (λ (h : ℕ). PutsIn old new (length old) h (length entries + 1)) (sym last) puts));
+      behind = behind_more visits e before so.behind;
+      stands = subst (λ (n : ℕ). AreInSlots (visits ++ e ∷ []) n new) (sym count) (in_slots_more (visits ++ e ∷ []) (length visits) old new
+          (λ i some below. subst (λ (h : ℕ). StandsIn old (length old) h (i + 1)) (sym (ap (λ (x : Visit). x.hash) (get_or_append_left visits (e ∷ []) no_visit i below))) (so.stands i some below))
+          (subst (λ (h : ℕ). PutsIn old new (length old) h (length visits + 1)) (sym last) puts));
       few = omega (arith, count, more, few);
     }
 
-pub table_one : (e : Entry) → IsTable (e ∷ []) []
+pub table_one : (e : Visit) → IsTable (e ∷ []) []
 table_one e = record {
   behind = λ i some below. absurd (omega (arith, some, below));
   stands = λ i some below. absurd (omega (arith, some, below));
@@ -174,21 +174,21 @@ table_one e = record {
 
 -- ---- what is looked for
 
--- what stands before this step is no state like the place
-abbrev pub LooksPast : Plan → Point → List Entry → List ℕ → ℕ → Point → ℕ → Type 0
-LooksPast plan start entries slots hash p step =
-    (k : ℕ) → k < step → (slot_at slots (length slots) hash k ≢ 0) × IsOther plan start entries hash p (slot_at slots (length slots) hash k - 1)
+-- what stands before this step is no state like the position
+abbrev pub LooksPast : Plan → Point → List Visit → List ℕ → ℕ → Point → ℕ → Type 0
+LooksPast plan start visits slots hash p step =
+    (k : ℕ) → k < step → (slot_at slots (length slots) hash k ≢ 0) × IsOther plan start visits hash p (slot_at slots (length slots) hash k - 1)
 
-pub past_more : (plan : Plan) (start : Point) (entries : List Entry) (slots : List ℕ) (hash : ℕ) (p : Point) (step : ℕ) → LooksPast plan start entries slots hash p step → slot_at slots (length slots) hash step ≢ 0 → IsOther plan start entries hash p (slot_at slots (length slots) hash step - 1) → LooksPast plan start entries slots hash p (step + 1)
-past_more plan start entries slots hash p step so some other k below = go (below_or k step below)
+pub past_more : (plan : Plan) (start : Point) (visits : List Visit) (slots : List ℕ) (hash : ℕ) (p : Point) (step : ℕ) → LooksPast plan start visits slots hash p step → slot_at slots (length slots) hash step ≢ 0 → IsOther plan start visits hash p (slot_at slots (length slots) hash step - 1) → LooksPast plan start visits slots hash p (step + 1)
+past_more plan start visits slots hash p step so some other k below = go (below_or k step below)
   where
-    go : (k < step) ⊎ (k ≡ step) → (slot_at slots (length slots) hash k ≢ 0) × IsOther plan start entries hash p (slot_at slots (length slots) hash k - 1)
+    go : (k < step) ⊎ (k ≡ step) → (slot_at slots (length slots) hash k ≢ 0) × IsOther plan start visits hash p (slot_at slots (length slots) hash k - 1)
     go (inl before) = so k before
-    go (inr last) = subst (λ (j : ℕ). (slot_at slots (length slots) hash j ≢ 0) × IsOther plan start entries hash p (slot_at slots (length slots) hash j - 1)) (sym last) (some, other)
+    go (inr last) = subst (λ (j : ℕ). (slot_at slots (length slots) hash j ≢ 0) × IsOther plan start visits hash p (slot_at slots (length slots) hash j - 1)) (sym last) (some, other)
 
 -- where a slot is free, or all were looked at, none is like it
-pub never_found : (plan : Plan) (start : Point) (entries : List Entry) (slots : List ℕ) (hash : ℕ) (p : Point) (step : ℕ) → AreInSlots entries (length entries) slots → LooksPast plan start entries slots hash p step → (slot_at slots (length slots) hash step ≡ 0) ⊎ (length slots ≤ step) → IsFound plan start entries hash p None
-never_found plan start entries slots hash p step stands past ends i some below same point walk is = go (nat_lt it.0 step) refl ends
+pub never_found : (plan : Plan) (start : Point) (visits : List Visit) (slots : List ℕ) (hash : ℕ) (p : Point) (step : ℕ) → AreInSlots visits (length visits) slots → LooksPast plan start visits slots hash p step → (slot_at slots (length slots) hash step ≡ 0) ⊎ (length slots ≤ step) → IsFound plan start visits hash p None
+never_found plan start visits slots hash p step stands past ends i some below same point walk is = go (nat_lt it.0 step) refl ends
   where
     it : StandsIn slots (length slots) hash (i + 1)
     it = subst (λ (h : ℕ). StandsIn slots (length slots) h (i + 1)) same (stands i some below)
@@ -205,7 +205,7 @@ never_found plan start entries slots hash p step stands past ends i some below s
         let before : it.0 < step = grind (arith, nat_tests, e) in
         let number = it.2 in
         let one : slot_at slots (length slots) hash it.0 - 1 ≡ i = omega (arith, number) in
-        let other = subst (λ (k : ℕ). IsOther plan start entries hash p k) one (past it.0 before).1 in
+        let other = subst (λ (k : ℕ). IsOther plan start visits hash p k) one (past it.0 before).1 in
         other below same point walk is
     go false e (inl free) = here free (below_or step it.0 (let after : step ≤ it.0 = grind (arith, nat_tests, e) in omega (arith, after)))
     go false e (inr all) =

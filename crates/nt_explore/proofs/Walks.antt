@@ -5,8 +5,8 @@ use Rattle.std.proofs.lemmas.Bool.Decides.{nat_tests}
 use Rattle.std.proofs.lemmas.List.{length-set, length_push, get_or_push, get_or_append_left}
 use Rattle.nt_look.specs.Orders.{Plan, Point, Goes, steps, place}
 use Rattle.nt_look.proofs.Searching.{steps_counted}
-use Rattle.nt_explore.specs.declared.met.Entry.{Entry}
-use Rattle.nt_explore.specs.Walk.{no_entry, parent_of, lane_of, hash_at, AreBehind, IsWalk, HasPoint, IsFound, Meets, TriesLane, Tries, CanGoTo, edge, Went, LeadsTo}
+use Rattle.nt_explore.specs.declared.met.Visit.{Visit}
+use Rattle.nt_explore.specs.Walk.{no_visit, parent_of, lane_of, hash_at, AreBehind, IsWalk, HasPoint, IsFound, Meets, TriesLane, Tries, CanGoTo, edge, Went, LeadsTo}
 use Rattle.nt_calls.specs.State.{State}
 use Rattle.nt_explore.specs.Search.{beginning, CanGo, IsOneIf, SumsTo}
 use Rattle.nt_explore.specs.Hash.{hash_of}
@@ -30,12 +30,12 @@ put_else point n p i other = let test : eqb i n ≡ false = grind (arith, nat_te
 put_below : (point : ℕ → Point) (n : ℕ) (p : Point) (i : ℕ) → i < n → put point n p i ≡ point i
 put_below point n p i below = put_else point n p i (λ e. absurd (omega (arith, below, e)))
 
-pub behind_more : (entries : List Entry) (e : Entry) → e.parent < length entries → AreBehind entries → AreBehind (entries ++ e ∷ [])
-behind_more entries e before behind i some below = go (below_or i (length entries) (let count = length_push entries e in omega (arith, below, count)))
+pub behind_more : (visits : List Visit) (e : Visit) → e.parent < length visits → AreBehind visits → AreBehind (visits ++ e ∷ [])
+behind_more visits e before behind i some below = go (below_or i (length visits) (let count = length_push visits e in omega (arith, below, count)))
   where
-    go : (i < length entries) ⊎ (i ≡ length entries) → parent_of (entries ++ e ∷ []) i < i
-    go (inl inside) = let same = ap (λ (x : Entry). x.parent) (get_or_append_left entries (e ∷ []) no_entry i inside) in let old = behind i some inside in omega (arith, same, old)
-    go (inr last) = let same = ap (λ (x : Entry). x.parent) (get_or_push entries e no_entry i (sym last)) in omega (arith, same, last, before)
+    go : (i < length visits) ⊎ (i ≡ length visits) → parent_of (visits ++ e ∷ []) i < i
+    go (inl inside) = let same = ap (λ (x : Visit). x.parent) (get_or_append_left visits (e ∷ []) no_visit i inside) in let old = behind i some inside in omega (arith, same, old)
+    go (inr last) = let same = ap (λ (x : Visit). x.parent) (get_or_push visits e no_visit i (sym last)) in omega (arith, same, last, before)
 
 pub goes_wide : (plan : Plan) (old : Point) (lane : ℕ) (new : Point) → Goes plan old lane new → length old.at ≡ length plan → length new.at ≡ length plan
 goes_wide plan old lane new goes wide = ap (λ (ns : List ℕ). length ns) goes.at ∙ (length-set old.at lane (place old lane + 1) ∙ wide)
@@ -46,77 +46,77 @@ deeper plan p q lane wide goes = steps_counted plan (lane ∷ []) p q wide (q, g
 goes_at : (plan : Plan) (a b : Point) (l m : ℕ) (p q : Point) → a ≡ b → l ≡ m → p ≡ q → Goes plan a l p → Goes plan b m q
 goes_at plan a b l m p q e f g goes = subst (λ (z : Point). Goes plan b m z) g (subst (λ (k : ℕ). Goes plan b k p) f (subst (λ (z : Point). Goes plan z l p) e goes))
 
-walk_more : (plan : Plan) (start : Point) (entries : List Entry) (e : Entry) (p : Point) (point : ℕ → Point) → IsWalk plan start entries point → e.parent < length entries → Goes plan (point e.parent) e.lane p → e.hash ≡ hash_of p → ((i : ℕ) → i < length entries → point i ≢ p) → IsWalk plan start (entries ++ e ∷ []) (put point (length entries) p)
-walk_more plan start entries e p point walk before goes hash fresh = record {
-  some = let count = length_push entries e in omega (arith, count);
-  first = put_below point (length entries) p 0 walk.some ∙ walk.first;
-  behind = behind_more entries e before walk.behind;
-  wide = λ i below. wide i (below_or i (length entries) (let count = length_push entries e in omega (arith, below, count)));
-  came = λ i some below. came i some (below_or i (length entries) (let count = length_push entries e in omega (arith, below, count)));
-  hashed = λ i some below. hashed i some (below_or i (length entries) (let count = length_push entries e in omega (arith, below, count)));
-  differ = λ i j first below. differ i j first (below_or j (length entries) (let count = length_push entries e in omega (arith, below, count)));
+walk_more : (plan : Plan) (start : Point) (visits : List Visit) (e : Visit) (p : Point) (point : ℕ → Point) → IsWalk plan start visits point → e.parent < length visits → Goes plan (point e.parent) e.lane p → e.hash ≡ hash_of p → ((i : ℕ) → i < length visits → point i ≢ p) → IsWalk plan start (visits ++ e ∷ []) (put point (length visits) p)
+walk_more plan start visits e p point walk before goes hash fresh = record {
+  some = let count = length_push visits e in omega (arith, count);
+  first = put_below point (length visits) p 0 walk.some ∙ walk.first;
+  behind = behind_more visits e before walk.behind;
+  wide = λ i below. wide i (below_or i (length visits) (let count = length_push visits e in omega (arith, below, count)));
+  came = λ i some below. came i some (below_or i (length visits) (let count = length_push visits e in omega (arith, below, count)));
+  hashed = λ i some below. hashed i some (below_or i (length visits) (let count = length_push visits e in omega (arith, below, count)));
+  differ = λ i j first below. differ i j first (below_or j (length visits) (let count = length_push visits e in omega (arith, below, count)));
 }
   where
-    hashed : (i : ℕ) → 0 < i → (i < length entries) ⊎ (i ≡ length entries) → hash_at (entries ++ e ∷ []) i ≡ hash_of (put point (length entries) p i)
-    hashed i some (inl inside) = ap (λ (x : Entry). x.hash) (get_or_append_left entries (e ∷ []) no_entry i inside) ∙ (walk.hashed i some inside ∙ ap hash_of (sym (put_below point (length entries) p i inside)))
-    hashed i some (inr last) = ap (λ (x : Entry). x.hash) (get_or_push entries e no_entry i (sym last)) ∙ (hash ∙ ap hash_of (sym (ap (put point (length entries) p) last ∙ put_here point (length entries) p)))
+    hashed : (i : ℕ) → 0 < i → (i < length visits) ⊎ (i ≡ length visits) → hash_at (visits ++ e ∷ []) i ≡ hash_of (put point (length visits) p i)
+    hashed i some (inl inside) = ap (λ (x : Visit). x.hash) (get_or_append_left visits (e ∷ []) no_visit i inside) ∙ (walk.hashed i some inside ∙ ap hash_of (sym (put_below point (length visits) p i inside)))
+    hashed i some (inr last) = ap (λ (x : Visit). x.hash) (get_or_push visits e no_visit i (sym last)) ∙ (hash ∙ ap hash_of (sym (ap (put point (length visits) p) last ∙ put_here point (length visits) p)))
 
-    differ : (i j : ℕ) → i < j → (j < length entries) ⊎ (j ≡ length entries) → put point (length entries) p i ≢ put point (length entries) p j
-    differ i j first (inl inside) = λ same. walk.differ i j first inside (sym (put_below point (length entries) p i (omega (arith, first, inside))) ∙ (same ∙ put_below point (length entries) p j inside))
+    differ : (i j : ℕ) → i < j → (j < length visits) ⊎ (j ≡ length visits) → put point (length visits) p i ≢ put point (length visits) p j
+    differ i j first (inl inside) = λ same. walk.differ i j first inside (sym (put_below point (length visits) p i (omega (arith, first, inside))) ∙ (same ∙ put_below point (length visits) p j inside))
     differ i j first (inr last) = λ same.
-        let inside : i < length entries = omega (arith, first, last) in
-        fresh i inside (sym (put_below point (length entries) p i inside) ∙ (same ∙ (ap (put point (length entries) p) last ∙ put_here point (length entries) p)))
+        let inside : i < length visits = omega (arith, first, last) in
+        fresh i inside (sym (put_below point (length visits) p i inside) ∙ (same ∙ (ap (put point (length visits) p) last ∙ put_here point (length visits) p)))
 
-    wide : (i : ℕ) → (i < length entries) ⊎ (i ≡ length entries) → length (put point (length entries) p i).at ≡ length plan
-    wide i (inl inside) = ap (λ (z : Point). length z.at) (put_below point (length entries) p i inside) ∙ walk.wide i inside
-    wide i (inr last) = ap (λ (n : ℕ). length (put point (length entries) p n).at) last ∙ (ap (λ (z : Point). length z.at) (put_here point (length entries) p) ∙ goes_wide plan (point e.parent) e.lane p goes (walk.wide e.parent before))
+    wide : (i : ℕ) → (i < length visits) ⊎ (i ≡ length visits) → length (put point (length visits) p i).at ≡ length plan
+    wide i (inl inside) = ap (λ (z : Point). length z.at) (put_below point (length visits) p i inside) ∙ walk.wide i inside
+    wide i (inr last) = ap (λ (n : ℕ). length (put point (length visits) p n).at) last ∙ (ap (λ (z : Point). length z.at) (put_here point (length visits) p) ∙ goes_wide plan (point e.parent) e.lane p goes (walk.wide e.parent before))
 
-    came : (i : ℕ) → 0 < i → (i < length entries) ⊎ (i ≡ length entries) → Goes plan (put point (length entries) p (parent_of (entries ++ e ∷ []) i)) (lane_of (entries ++ e ∷ []) i) (put point (length entries) p i)
+    came : (i : ℕ) → 0 < i → (i < length visits) ⊎ (i ≡ length visits) → Goes plan (put point (length visits) p (parent_of (visits ++ e ∷ []) i)) (lane_of (visits ++ e ∷ []) i) (put point (length visits) p i)
     came i some (inl inside) =
-        let same = get_or_append_left entries (e ∷ []) no_entry i inside in
-        let parent : parent_of (entries ++ e ∷ []) i ≡ parent_of entries i = ap (λ (x : Entry). x.parent) same in
-        let lane : lane_of (entries ++ e ∷ []) i ≡ lane_of entries i = ap (λ (x : Entry). x.lane) same in
+        let same = get_or_append_left visits (e ∷ []) no_visit i inside in
+        let parent : parent_of (visits ++ e ∷ []) i ≡ parent_of visits i = ap (λ (x : Visit). x.parent) same in
+        let lane : lane_of (visits ++ e ∷ []) i ≡ lane_of visits i = ap (λ (x : Visit). x.lane) same in
         let older = walk.behind i some inside in
         goes_at plan _ _ _ _ _ _
-        (sym (ap (put point (length entries) p) parent ∙ put_below point (length entries) p (parent_of entries i) (omega (arith, older, inside))))
+        (sym (ap (put point (length visits) p) parent ∙ put_below point (length visits) p (parent_of visits i) (omega (arith, older, inside))))
         (sym lane)
-        (sym (put_below point (length entries) p i inside))
+        (sym (put_below point (length visits) p i inside))
         (walk.came i some inside)
     came i some (inr last) =
-        let same = get_or_push entries e no_entry i (sym last) in
-        let parent : parent_of (entries ++ e ∷ []) i ≡ e.parent = ap (λ (x : Entry). x.parent) same in
-        let lane : lane_of (entries ++ e ∷ []) i ≡ e.lane = ap (λ (x : Entry). x.lane) same in
+        let same = get_or_push visits e no_visit i (sym last) in
+        let parent : parent_of (visits ++ e ∷ []) i ≡ e.parent = ap (λ (x : Visit). x.parent) same in
+        let lane : lane_of (visits ++ e ∷ []) i ≡ e.lane = ap (λ (x : Visit). x.lane) same in
         goes_at plan _ _ _ _ _ _
-        (sym (ap (put point (length entries) p) parent ∙ put_below point (length entries) p e.parent before))
+        (sym (ap (put point (length visits) p) parent ∙ put_below point (length visits) p e.parent before))
         (sym lane)
-        (sym (ap (put point (length entries) p) last ∙ put_here point (length entries) p))
+        (sym (ap (put point (length visits) p) last ∙ put_here point (length visits) p))
         goes
 
 -- the start is met by no lane, and of the others none with the hash is the point
-never_met : (plan : Plan) (start : Point) (entries : List Entry) (e : Entry) (p : Point) (point : ℕ → Point) → steps start.at ≡ 0 → e.parent < length entries → IsWalk plan start entries point → Goes plan (point e.parent) e.lane p → e.hash ≡ hash_of p → IsFound plan start entries e.hash p None → (i : ℕ) → i < length entries → point i ≢ p
-never_met plan start entries e p point low before walk goes hash none zero below is =
+never_met : (plan : Plan) (start : Point) (visits : List Visit) (e : Visit) (p : Point) (point : ℕ → Point) → steps start.at ≡ 0 → e.parent < length visits → IsWalk plan start visits point → Goes plan (point e.parent) e.lane p → e.hash ≡ hash_of p → IsFound plan start visits e.hash p None → (i : ℕ) → i < length visits → point i ≢ p
+never_met plan start visits e p point low before walk goes hash none zero below is =
     let deep = deeper plan (point e.parent) p e.lane (walk.wide e.parent before) goes in
     let none' = ap (λ (z : Point). steps z.at) (sym walk.first ∙ is) in
     absurd (omega (arith, low, deep, none'))
-never_met plan start entries e p point low before walk goes hash none (suc i) below is =
+never_met plan start visits e p point low before walk goes hash none (suc i) below is =
     let some : 0 < suc i = omega arith in
     none (suc i) some below (walk.hashed (suc i) some below ∙ (ap hash_of is ∙ sym hash)) point walk is
 
-pub meets_new : (plan : Plan) (start : Point) (entries : List Entry) (e : Entry) (p : Point) (j : ℕ) (point : ℕ → Point) → steps start.at ≡ 0 → e.parent < length entries → j ≡ length entries → e.hash ≡ hash_of p → IsFound plan start entries e.hash p None → IsWalk plan start entries point → Goes plan (point e.parent) e.lane p → Meets plan start entries (entries ++ e ∷ []) p j point
-meets_new plan start entries e p j point low before last hash none walk goes =
-    let count = length_push entries e in
+pub meets_new : (plan : Plan) (start : Point) (visits : List Visit) (e : Visit) (p : Point) (j : ℕ) (point : ℕ → Point) → steps start.at ≡ 0 → e.parent < length visits → j ≡ length visits → e.hash ≡ hash_of p → IsFound plan start visits e.hash p None → IsWalk plan start visits point → Goes plan (point e.parent) e.lane p → Meets plan start visits (visits ++ e ∷ []) p j point
+meets_new plan start visits e p j point low before last hash none walk goes =
+    let count = length_push visits e in
     record {
-      points = put point (length entries) p;
-      grows = record { walk = walk_more plan start entries e p point walk before goes hash (never_met plan start entries e p point low before walk goes hash none); longer = omega (arith, count); same = λ i below. put_below point (length entries) p i below };
+      points = put point (length visits) p;
+      grows = record { walk = walk_more plan start visits e p point walk before goes hash (never_met plan start visits e p point low before walk goes hash none); longer = omega (arith, count); same = λ i below. put_below point (length visits) p i below };
       there = omega (arith, count, last);
-      is = ap (put point (length entries) p) last ∙ put_here point (length entries) p;
-      deep = λ i past below. let here : i ≡ length entries = omega (arith, past, below, count) in ap (put point (length entries) p) here ∙ put_here point (length entries) p;
+      is = ap (put point (length visits) p) last ∙ put_here point (length visits) p;
+      deep = λ i past below. let here : i ≡ length visits = omega (arith, past, below, count) in ap (put point (length visits) p) here ∙ put_here point (length visits) p;
     }
 
 -- ---- a point that is there
 
-pub meets_old : (plan : Plan) (start : Point) (entries : List Entry) (hash : ℕ) (p : Point) (j : ℕ) (point : ℕ → Point) → IsFound plan start entries hash p (Some j) → IsWalk plan start entries point → Meets plan start entries entries p j point
-meets_old plan start entries hash p j point found walk = record {
+pub meets_old : (plan : Plan) (start : Point) (visits : List Visit) (hash : ℕ) (p : Point) (j : ℕ) (point : ℕ → Point) → IsFound plan start visits hash p (Some j) → IsWalk plan start visits point → Meets plan start visits visits p j point
+meets_old plan start visits hash p j point found walk = record {
   points = point;
   grows = record { walk = walk; longer = omega arith; same = λ i below. refl };
   there = found.0;
@@ -129,7 +129,7 @@ meets_old plan start entries hash p j point found walk = record {
 pub sums_on : (is : ℕ → ℕ → Type 0) (n before last sum : ℕ) → SumsTo is n before → is n last → sum ≡ before + last → SumsTo is (n + 1) sum
 sums_on is n before last sum old here total = let more : suc n ≡ n + 1 = omega arith in subst (λ (k : ℕ). SumsTo is k sum) more (before, last, old, here, total)
 
-pub lane_went : (plan : Plan) (start : Point) (old new : List Entry) (pairs : List Edge) (p next : Point) (index lane j : ℕ) (point : ℕ → Point) → length p.at ≡ length plan → Goes plan p lane next → Meets plan start old new next j point → TriesLane plan start old new pairs (pairs ++ edge index j ∷ []) p index lane point
+pub lane_went : (plan : Plan) (start : Point) (old new : List Visit) (pairs : List Edge) (p next : Point) (index lane j : ℕ) (point : ℕ → Point) → length p.at ≡ length plan → Goes plan p lane next → Meets plan start old new next j point → TriesLane plan start old new pairs (pairs ++ edge index j ∷ []) p index lane point
 lane_went plan start old new pairs p next index lane j point wide goes meets = record {
   points = meets.points;
   grows = meets.grows;
@@ -140,29 +140,29 @@ lane_went plan start old new pairs p next index lane j point wide goes meets = r
   count = (1, inl ((next, goes), refl), length_push pairs (edge index j));
 }
 
-pub lane_stays : (plan : Plan) (start : Point) (entries : List Entry) (pairs : List Edge) (p : Point) (index lane : ℕ) (point : ℕ → Point) → ((q : Point) → Goes plan p lane q → ⊥) → IsWalk plan start entries point → TriesLane plan start entries entries pairs pairs p index lane point
-lane_stays plan start entries pairs p index lane point never walk = record {
+pub lane_stays : (plan : Plan) (start : Point) (visits : List Visit) (pairs : List Edge) (p : Point) (index lane : ℕ) (point : ℕ → Point) → ((q : Point) → Goes plan p lane q → ⊥) → IsWalk plan start visits point → TriesLane plan start visits visits pairs pairs p index lane point
+lane_stays plan start visits pairs p index lane point never walk = record {
   points = point;
   grows = record { walk = walk; longer = omega arith; same = λ i below. refl };
   deep = λ i past below. absurd (omega (arith, past, below));
   came = λ i past below. absurd (omega (arith, past, below));
   tried = λ q goes. absurd (never q goes);
-  leads = leads_none plan p index (length entries) point pairs (λ l. l ≡ lane) (λ l q is goes. never q (subst (λ (k : ℕ). Goes plan p k q) is goes));
+  leads = leads_none plan p index (length visits) point pairs (λ l. l ≡ lane) (λ l q is goes. never q (subst (λ (k : ℕ). Goes plan p k q) is goes));
   count = (0, inr (λ can. never can.0 can.1, refl), omega arith);
 }
 
-pub tries_none : (plan : Plan) (start : Point) (entries : List Entry) (pairs : List Edge) (p : Point) (index : ℕ) (point : ℕ → Point) → IsWalk plan start entries point → Tries plan start entries entries pairs pairs p index 0 point
-tries_none plan start entries pairs p index point walk = record {
+pub tries_none : (plan : Plan) (start : Point) (visits : List Visit) (pairs : List Edge) (p : Point) (index : ℕ) (point : ℕ → Point) → IsWalk plan start visits point → Tries plan start visits visits pairs pairs p index 0 point
+tries_none plan start visits pairs p index point walk = record {
   points = point;
   grows = record { walk = walk; longer = omega arith; same = λ i below. refl };
   deep = λ i past below. absurd (omega (arith, past, below));
   came = λ i past below. absurd (omega (arith, past, below));
   tried = λ lane q below. absurd (omega (arith, below));
-  leads = leads_none plan p index (length entries) point pairs (λ l. l < 0) (λ l q below goes. absurd (omega (arith, below)));
+  leads = leads_none plan p index (length visits) point pairs (λ l. l < 0) (λ l q below goes. absurd (omega (arith, below)));
   count = (0, refl, omega arith);
 }
 
-pub tries_more : (plan : Plan) (start : Point) (old mid new : List Entry) (first halfway last : List Edge) (p : Point) (lanes index : ℕ) (point : ℕ → Point) → index < length old → point index ≡ p → (tries : Tries plan start old mid first halfway p index lanes point) → ((points : ℕ → Point) → IsWalk plan start mid points → points index ≡ p → TriesLane plan start mid new halfway last p index lanes points) → Tries plan start old new first last p index (lanes + 1) point
+pub tries_more : (plan : Plan) (start : Point) (old mid new : List Visit) (first halfway last : List Edge) (p : Point) (lanes index : ℕ) (point : ℕ → Point) → index < length old → point index ≡ p → (tries : Tries plan start old mid first halfway p index lanes point) → ((points : ℕ → Point) → IsWalk plan start mid points → points index ≡ p → TriesLane plan start mid new halfway last p index lanes points) → Tries plan start old new first last p index (lanes + 1) point
 tries_more plan start old mid new first halfway last p lanes index point within is tries lane = record {
   points = more.points;
   grows = record { walk = more.grows.walk; longer = omega (arith, longer, second); same = λ i below. more.grows.same i (omega (arith, below, longer)) ∙ tries.grows.same i below };
@@ -212,20 +212,20 @@ steps_none (suc n) = let rest = steps_none n in omega (arith, rest)
 pub start_low : (plan : Plan) (s : State) → steps (beginning plan s).at ≡ 0
 start_low plan s = steps_none (length plan)
 
-abbrev pub one_entry : List Entry
-one_entry = no_entry ∷ []
+abbrev pub one_visit : List Visit
+one_visit = no_visit ∷ []
 
 -- ---- what was met
 
-pub meets_added : {E : Type 0} (plan : Plan) (start : Point) (old new : List Entry) (e : Entry) (p : Point) (r : Result ℕ E) → steps start.at ≡ 0 → e.parent < length old → e.hash ≡ hash_of p → IsFound plan start old e.hash p None → IfOk r (λ j. j ≡ length old) → OnOk r (new ≡ old ++ e ∷ []) → IfOk r (λ j. (point : ℕ → Point) → IsWalk plan start old point → Goes plan (point e.parent) e.lane p → Meets plan start old new p j point)
-meets_added plan start old new e p (Ok j) low before hash none last added = λ point walk goes. subst (λ (es : List Entry). Meets plan start old es p j point) (sym added) (meets_new plan start old e p j point low before last hash none walk goes)
+pub meets_added : {E : Type 0} (plan : Plan) (start : Point) (old new : List Visit) (e : Visit) (p : Point) (r : Result ℕ E) → steps start.at ≡ 0 → e.parent < length old → e.hash ≡ hash_of p → IsFound plan start old e.hash p None → IfOk r (λ j. j ≡ length old) → OnOk r (new ≡ old ++ e ∷ []) → IfOk r (λ j. (point : ℕ → Point) → IsWalk plan start old point → Goes plan (point e.parent) e.lane p → Meets plan start old new p j point)
+meets_added plan start old new e p (Ok j) low before hash none last added = λ point walk goes. subst (λ (es : List Visit). Meets plan start old es p j point) (sym added) (meets_new plan start old e p j point low before last hash none walk goes)
 meets_added plan start old new e p (Err x) low before hash none last added = tt
 
-pub meets_there : (plan : Plan) (start : Point) (entries read : List Entry) (hash : ℕ) (p : Point) (found : Option ℕ) (j : ℕ) → read ≡ entries → found ≡ Some j → IsFound plan start read hash p found → (point : ℕ → Point) → IsWalk plan start entries point → Meets plan start entries entries p j point
-meets_there plan start entries read hash p found j same is known point walk = meets_old plan start entries hash p j point (subst (λ (es : List Entry). IsFound plan start es hash p (Some j)) same (subst (λ (o : Option ℕ). IsFound plan start read hash p o) is known)) walk
+pub meets_there : (plan : Plan) (start : Point) (visits read : List Visit) (hash : ℕ) (p : Point) (found : Option ℕ) (j : ℕ) → read ≡ visits → found ≡ Some j → IsFound plan start read hash p found → (point : ℕ → Point) → IsWalk plan start visits point → Meets plan start visits visits p j point
+meets_there plan start visits read hash p found j same is known point walk = meets_old plan start visits hash p j point (subst (λ (es : List Visit). IsFound plan start es hash p (Some j)) same (subst (λ (o : Option ℕ). IsFound plan start read hash p o) is known)) walk
 
-pub found_none : (plan : Plan) (start : Point) (entries read : List Entry) (hash : ℕ) (p : Point) (found : Option ℕ) → read ≡ entries → found ≡ None → IsFound plan start read hash p found → IsFound plan start entries hash p None
-found_none plan start entries read hash p found same is known = subst (λ (es : List Entry). IsFound plan start es hash p None) same (subst (λ (o : Option ℕ). IsFound plan start read hash p o) is known)
+pub found_none : (plan : Plan) (start : Point) (visits read : List Visit) (hash : ℕ) (p : Point) (found : Option ℕ) → read ≡ visits → found ≡ None → IsFound plan start read hash p found → IsFound plan start visits hash p None
+found_none plan start visits read hash p found same is known = subst (λ (es : List Visit). IsFound plan start es hash p None) same (subst (λ (o : Option ℕ). IsFound plan start read hash p o) is known)
 
 -- ---- one lane, as it went
 
@@ -234,14 +234,14 @@ never_went plan p at next lane went still is so q goes =
     let never : Went plan at lane false next = subst (λ (b : Bool). Went plan at lane b next) still so in
     never.1 q (subst (λ (z : Point). Goes plan z lane q) (sym is) goes)
 
-pub lane_never : (plan : Plan) (start : Point) (entries : List Entry) (pairs : List Edge) (p : Point) (index lane : ℕ) (next : Option Point) → next ≡ None → LeadsTo plan p lane next → (point : ℕ → Point) → IsWalk plan start entries point → TriesLane plan start entries entries pairs pairs p index lane point
-lane_never plan start entries pairs p index lane next none leads point walk =
+pub lane_never : (plan : Plan) (start : Point) (visits : List Visit) (pairs : List Edge) (p : Point) (index lane : ℕ) (next : Option Point) → next ≡ None → LeadsTo plan p lane next → (point : ℕ → Point) → IsWalk plan start visits point → TriesLane plan start visits visits pairs pairs p index lane point
+lane_never plan start visits pairs p index lane next none leads point walk =
     let never : LeadsTo plan p lane None = subst (λ (o : Option Point). LeadsTo plan p lane o) none leads in
-    lane_stays plan start entries pairs p index lane point never walk
+    lane_stays plan start visits pairs p index lane point never walk
 
 pub lane_leads : (plan : Plan) (p next : Point) (lane : ℕ) (found : Option Point) → found ≡ Some next → LeadsTo plan p lane found → Goes plan p lane next
 lane_leads plan p next lane found is leads = subst (λ (o : Option Point). LeadsTo plan p lane o) is leads
 
-pub lane_met : (plan : Plan) (start : Point) (old new : List Entry) (pairs more : List Edge) (p next : Point) (lane index j : ℕ) → length p.at ≡ length plan → more ≡ pairs ++ edge index j ∷ [] → ((point : ℕ → Point) → IsWalk plan start old point → Goes plan (point index) lane next → Meets plan start old new next j point) → (point : ℕ → Point) → IsWalk plan start old point → point index ≡ p → Goes plan p lane next → TriesLane plan start old new pairs more p index lane point
+pub lane_met : (plan : Plan) (start : Point) (old new : List Visit) (pairs more : List Edge) (p next : Point) (lane index j : ℕ) → length p.at ≡ length plan → more ≡ pairs ++ edge index j ∷ [] → ((point : ℕ → Point) → IsWalk plan start old point → Goes plan (point index) lane next → Meets plan start old new next j point) → (point : ℕ → Point) → IsWalk plan start old point → point index ≡ p → Goes plan p lane next → TriesLane plan start old new pairs more p index lane point
 lane_met plan start old new pairs more p next lane index j wide added meets point walk here goes =
     subst (λ (es : List Edge). TriesLane plan start old new pairs es p index lane point) (sym added) (lane_went plan start old new pairs p next index lane j point wide goes (meets point walk (subst (λ (z : Point). Goes plan z lane next) (sym here) goes)))

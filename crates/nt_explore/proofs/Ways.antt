@@ -4,8 +4,8 @@ use Rattle.std.specs.Prelude.{drop, reverse, Result, Ok, Err, IfOk, OnOk}
 use Rattle.nt_look.specs.Orders.{Plan, Point, Goes, Order}
 use Rattle.std.proofs.lemmas.List.{append_assoc, append-nil, get_or_default}
 use Rattle.std.proofs.Math.Seq.{drop-length}
-use Rattle.nt_explore.specs.declared.met.Entry.{Entry}
-use Rattle.nt_explore.specs.Walk.{no_entry, parent_of, lane_of, AreBehind, IsWalk, Arrives}
+use Rattle.nt_explore.specs.declared.met.Visit.{Visit}
+use Rattle.nt_explore.specs.Walk.{no_visit, parent_of, lane_of, AreBehind, IsWalk, Arrives}
 use Rattle.nt_explore.proofs.Unique.{arrives_same}
 use Rattle.std.proofs.lemmas.List.{reverse-append}
 
@@ -51,31 +51,31 @@ order_of plan start (lane ∷ lanes) p came =
 
 -- ---- back from a point to its parent
 
-entry_there : (entries : List Entry) (i : ℕ) (e : Entry) → e ≡ get_or entries i e → i < length entries → get_or entries i no_entry ≡ e
-entry_there entries i e is below = get_or_default entries i no_entry e below ∙ sym is
+entry_there : (visits : List Visit) (i : ℕ) (e : Visit) → e ≡ get_or visits i e → i < length visits → get_or visits i no_visit ≡ e
+entry_there visits i e is below = get_or_default visits i no_visit e below ∙ sym is
 
 -- the way so far leads on from wherever one came to the point
-abbrev pub LeadsOn : List Entry → ℕ → ℕ → List ℕ → Type 0
-LeadsOn entries index at way = (plan : Plan) (start : Point) (point : ℕ → Point) → IsWalk plan start entries point → (rest : List ℕ) → Arrives plan start rest (point at) → Arrives plan start (way ++ rest) (point index)
+abbrev pub LeadsOn : List Visit → ℕ → ℕ → List ℕ → Type 0
+LeadsOn visits index at way = (plan : Plan) (start : Point) (point : ℕ → Point) → IsWalk plan start visits point → (rest : List ℕ) → Arrives plan start rest (point at) → Arrives plan start (way ++ rest) (point index)
 
-pub leads_back : (entries : List Entry) (index at : ℕ) (e : Entry) (way : List ℕ) → 0 < at → at < length entries → e ≡ get_or entries at e → LeadsOn entries index at way → LeadsOn entries index e.parent (way ++ e.lane ∷ [])
-leads_back entries index at e way some below is leads plan start point walk rest came =
-    let entry = entry_there entries at e is below in
-    let goes : Goes plan (point e.parent) e.lane (point at) = subst (λ (x : Entry). Goes plan (point x.parent) x.lane (point at)) entry (walk.came at some below) in
+pub leads_back : (visits : List Visit) (index at : ℕ) (e : Visit) (way : List ℕ) → 0 < at → at < length visits → e ≡ get_or visits at e → LeadsOn visits index at way → LeadsOn visits index e.parent (way ++ e.lane ∷ [])
+leads_back visits index at e way some below is leads plan start point walk rest came =
+    let visit = entry_there visits at e is below in
+    let goes : Goes plan (point e.parent) e.lane (point at) = subst (λ (x : Visit). Goes plan (point x.parent) x.lane (point at)) visit (walk.came at some below) in
     let whole = leads plan start point walk (e.lane ∷ rest) (point e.parent, came, goes) in
     subst (λ (ls : List ℕ). Arrives plan start ls (point index)) (sym (append_assoc way (e.lane ∷ []) rest)) whole
 
-pub parent_before : (entries : List Entry) (at : ℕ) (e : Entry) → 0 < at → at < length entries → e ≡ get_or entries at e → AreBehind entries → e.parent < at
-parent_before entries at e some below is behind =
-    let entry = ap (λ (x : Entry). x.parent) (entry_there entries at e is below) in
+pub parent_before : (visits : List Visit) (at : ℕ) (e : Visit) → 0 < at → at < length visits → e ≡ get_or visits at e → AreBehind visits → e.parent < at
+parent_before visits at e some below is behind =
+    let visit = ap (λ (x : Visit). x.parent) (entry_there visits at e is below) in
     let before = behind at some below in
-    omega (arith, entry, before)
+    omega (arith, visit, before)
 
-pub leads_begin : (entries : List Entry) (index : ℕ) → LeadsOn entries index index []
-leads_begin entries index plan start point walk rest came = came
+pub leads_begin : (visits : List Visit) (index : ℕ) → LeadsOn visits index index []
+leads_begin visits index plan start point walk rest came = came
 
-pub leads_end : (entries : List Entry) (index : ℕ) (way : List ℕ) → LeadsOn entries index 0 way → (plan : Plan) (start : Point) (point : ℕ → Point) → IsWalk plan start entries point → Arrives plan start way (point index)
-leads_end entries index way leads plan start point walk = subst (λ (ls : List ℕ). Arrives plan start ls (point index)) (append-nil way) (leads plan start point walk [] walk.first)
+pub leads_end : (visits : List Visit) (index : ℕ) (way : List ℕ) → LeadsOn visits index 0 way → (plan : Plan) (start : Point) (point : ℕ → Point) → IsWalk plan start visits point → Arrives plan start way (point index)
+leads_end visits index way leads plan start point walk = subst (λ (ls : List ℕ). Arrives plan start ls (point index)) (append-nil way) (leads plan start point walk [] walk.first)
 
 -- ---- on from the start
 
@@ -96,14 +96,14 @@ far_on plan start way here next k lane below is on far q came =
 pub far_end : (plan : Plan) (start here : Point) (way : List ℕ) → ((q : Point) → Arrives plan start way q → Arrives plan start (drop 0 way) here) → (q : Point) → Arrives plan start way q → here ≡ q
 far_end plan start here way far q came = arrives_same plan start way here q (far q came) came
 
-pub leads_up : (entries : List Entry) (index at : ℕ) (way longer : List ℕ) → 0 < at → at < length entries → longer ≡ way ++ lane_of entries at ∷ [] → LeadsOn entries index at way → LeadsOn entries index (parent_of entries at) longer
-leads_up entries index at way longer some below is leads =
-    let e = get_or entries at no_entry in
-    let same : e ≡ get_or entries at e = get_or_default entries at no_entry e below in
-    subst (λ (ls : List ℕ). LeadsOn entries index e.parent ls) (sym is) (leads_back entries index at e way some below same leads)
+pub leads_up : (visits : List Visit) (index at : ℕ) (way longer : List ℕ) → 0 < at → at < length visits → longer ≡ way ++ lane_of visits at ∷ [] → LeadsOn visits index at way → LeadsOn visits index (parent_of visits at) longer
+leads_up visits index at way longer some below is leads =
+    let e = get_or visits at no_visit in
+    let same : e ≡ get_or visits at e = get_or_default visits at no_visit e below in
+    subst (λ (ls : List ℕ). LeadsOn visits index e.parent ls) (sym is) (leads_back visits index at e way some below same leads)
 
-pub parent_inside : (entries : List Entry) (at : ℕ) → 0 < at → at < length entries → AreBehind entries → parent_of entries at < length entries
-parent_inside entries at some below behind = let before = behind at some below in omega (arith, before, below)
+pub parent_inside : (visits : List Visit) (at : ℕ) → 0 < at → at < length visits → AreBehind visits → parent_of visits at < length visits
+parent_inside visits at some below behind = let before = behind at some below in omega (arith, before, below)
 
 pub far_back : (plan : Plan) (start : Point) (way : List ℕ) (here next : Point) (left : ℕ) → 0 < left → left ≤ length way
     → ((q : Point) → Goes plan here (get_or way (left - 1) 0) q → Goes plan here (get_or way (left - 1) 0) next)

@@ -40,7 +40,7 @@ abbrev pub mixed_thread : ℕ → Option ℕ → ℕ
 mixed_thread hash (Some thread) = mixed hash (thread + 1)
 mixed_thread hash None = mixed hash 0
 
--- a number, changed in turn by each place below n
+-- a number, changed in turn by each position below n
 abbrev pub folded : (ℕ → ℕ → ℕ) → ℕ → ℕ → ℕ
 folded step hash zero = hash
 folded step hash (suc n) = step (folded step hash n) n
@@ -73,7 +73,7 @@ mixed_apc hash (Some queued) = mixed_long (mixed_long hash queued.apc.routine) q
 mixed_apc hash None = hash
 
 abbrev pub mixed_apcs : List Queued → ℕ → ℕ
-mixed_apcs queue hash = folded (λ so_far place. mixed_apc so_far (slice_get queue place)) hash (min (length queue) (2 ^ 64 - 1))
+mixed_apcs queue hash = folded (λ so_far position. mixed_apc so_far (slice_get queue position)) hash (min (length queue) (2 ^ 64 - 1))
 
 abbrev pub mixed_wait : ℕ → Option Wait → ℕ
 mixed_wait hash (Some wait) = mixed_moment (mixed hash 1) wait.deadline
@@ -89,9 +89,9 @@ unfoldable pub mixed_one_thread : State → ℕ → ℕ → ℕ
 mixed_one_thread s hash t = mixed_apcs (apc_queue_of s.apcs t) (mixed_flag (mixed_wait hash (map.get s.waits t)) (slice_index_or s.handing t false))
 
 unfoldable pub mixed_one_object : State → ℕ → ℕ → ℕ
-mixed_one_object s hash place =
-    let queue : List ℕ = s.queues (low_half place) in
-    mixed_queue s.threads queue (mixed_object_at hash (slice_get s.objects place)) (slice_get queue 0)
+mixed_one_object s hash position =
+    let queue : List ℕ = s.queues (low_half position) in
+    mixed_queue s.threads queue (mixed_object_at hash (slice_get s.objects position)) (slice_get queue 0)
 
 abbrev pub mixed_places : List ℕ → ℕ → ℕ
 mixed_places places hash = folded (λ so_far i. mixed so_far (low_half (slice_index places i))) hash (length places)

@@ -6,9 +6,9 @@ use Rattle.nt_look.specs.Hangs.{marked}
 use Rattle.nt_look.specs.Orders.{Plan, Point, Goes, Hangs, IsLost, steps}
 use Rattle.nt_explore.specs.declared.loss.Edge.{Edge}
 use Rattle.nt_explore.specs.declared.loss.Edges.{Edges}
-use Rattle.nt_explore.specs.declared.met.Entry.{Entry}
-use Rattle.nt_explore.specs.declared.explored.Verdict.{Verdict}
-use Rattle.nt_explore.specs.declared.explored.Verdict.TheVariants as verdict
+use Rattle.nt_explore.specs.declared.met.Visit.{Visit}
+use Rattle.nt_explore.specs.declared.explored.OrderVerdict.{OrderVerdict}
+use Rattle.nt_explore.specs.declared.explored.OrderVerdict.TheVariants as verdict
 use Rattle.nt_explore.specs.declared.search.Counts.{Counts}
 use Rattle.nt_explore.specs.Search.{beginning, start_of, AreMetInTurn, AreCounts}
 use Rattle.nt_explore.specs.Walk.{IsWalk, HasPoint, Rises, Arrives}
@@ -19,12 +19,12 @@ IsFirst plan point looked None = (i : ℕ) → i < looked → Hangs plan (point 
 IsFirst plan point looked (Some h) = (h < looked) × Hangs plan (point h) × ((i : ℕ) → i < h → Hangs plan (point i) → ⊥)
 
 -- the points in the order of their depths: with each that was looked at all to which a lane leads, and the first that hangs
-pub record AreLooked (plan : Plan) (start : Point) (entries : List Entry) (looked : ℕ) (first : Option ℕ) (point : ℕ → Point) : Type 0 where
-  pub walk : IsWalk plan start entries point
-  pub within : looked ≤ length entries
-  pub rising : (i j : ℕ) → i ≤ j → j < length entries → steps (point i).at ≤ steps (point j).at
-  pub near : (j : ℕ) → looked < length entries → j < length entries → steps (point j).at ≤ steps (point looked).at + 1
-  pub closed : (i lane : ℕ) (q : Point) → i < looked → Goes plan (point i) lane q → HasPoint entries point q
+pub record AreLooked (plan : Plan) (start : Point) (visits : List Visit) (looked : ℕ) (first : Option ℕ) (point : ℕ → Point) : Type 0 where
+  pub walk : IsWalk plan start visits point
+  pub within : looked ≤ length visits
+  pub rising : (i j : ℕ) → i ≤ j → j < length visits → steps (point i).at ≤ steps (point j).at
+  pub near : (j : ℕ) → looked < length visits → j < length visits → steps (point j).at ≤ steps (point looked).at + 1
+  pub closed : (i lane : ℕ) (q : Point) → i < looked → Goes plan (point i) lane q → HasPoint visits point q
   pub told : IsFirst plan point looked first
 
 -- a lane leads from the one, which was looked at, to the other
@@ -47,11 +47,11 @@ IsLostThere plan point None = Unit {0}
 IsLostThere plan point (Some h) = (t : ℕ) × IsLost plan (point h) t
 
 -- so far the search is
-abbrev pub IsSearch : Plan → Point → List Entry → Edges → ℕ → Option ℕ → Type 0
-IsSearch plan start entries edges looked first =
+abbrev pub IsSearch : Plan → Point → List Visit → Edges → ℕ → Option ℕ → Type 0
+IsSearch plan start visits edges looked first =
     (point : ℕ → Point)
-    × AreLooked plan start entries looked first point
-    × AreEdges plan edges.threads edges.pairs.items edges.waits.items looked (length entries) point
+    × AreLooked plan start visits looked first point
+    × AreEdges plan edges.threads edges.pairs.items edges.waits.items looked (length visits) point
     × IsLostThere plan point first
 
 -- which points each look met, and the counts of them
@@ -61,30 +61,30 @@ pub record AreMet (plan : Plan) (start : Point) (looked states steps hangs : ℕ
   pub low : (i : ℕ) → i ≤ looked → met i ≤ states
 
 -- so far the search is, with its counts
-abbrev pub IsCounted : Plan → Point → List Entry → Edges → ℕ → Counts → (ℕ → ℕ) → Type 0
-IsCounted plan start entries edges looked counts met =
-    (search : IsSearch plan start entries edges looked counts.first)
-    × AreMet plan start looked (length entries) (length edges.pairs.items) counts.hangs search.0 met
+abbrev pub IsCounted : Plan → Point → List Visit → Edges → ℕ → Counts → (ℕ → ℕ) → Type 0
+IsCounted plan start visits edges looked counts met =
+    (search : IsSearch plan start visits edges looked counts.first)
+    × AreMet plan start looked (length visits) (length edges.pairs.items) counts.hangs search.0 met
 
 -- the same up to the looks so far, and after one more this many states are met
 abbrev pub then_met : (ℕ → ℕ) → ℕ → ℕ → ℕ → ℕ
 then_met met looked states i = if nat_lt looked i then states else met i
 
 -- one state more was looked at, of a search from this dispatcher
-abbrev pub LooksOn : Plan → Dispatcher → (old new : List Entry) → (edges more : Edges) → ℕ → (counts counts' : Counts) → Type 0
+abbrev pub LooksOn : Plan → Dispatcher → (old new : List Visit) → (edges more : Edges) → ℕ → (counts counts' : Counts) → Type 0
 LooksOn plan core old new edges more looked counts counts' =
     (met : ℕ → ℕ) → IsCounted plan (start_of plan core) old edges looked counts met
     → IsCounted plan (start_of plan core) new more (looked + 1) counts' (then_met met looked (length new))
 
 -- it is so of every search that came so far
-abbrev pub OfSearch : List Entry → Edges → ℕ → Option ℕ → (Plan → Point → Type 0) → Type 0
-OfSearch entries edges looked first so = (plan : Plan) (s : State) → IsSearch plan (beginning plan s) entries edges looked first → so plan (beginning plan s)
+abbrev pub OfSearch : List Visit → Edges → ℕ → Option ℕ → (Plan → Point → Type 0) → Type 0
+OfSearch visits edges looked first so = (plan : Plan) (s : State) → IsSearch plan (beginning plan s) visits edges looked first → so plan (beginning plan s)
 
 -- it is so of the points of every search that looked at all of so many states
 abbrev pub OfLooked : ℕ → Edges → (Plan → (ℕ → Point) → Type 0) → Type 0
 OfLooked states edges so =
-    (plan : Plan) (start : Point) (entries : List Entry) (first : Option ℕ) (point : ℕ → Point)
-    → length entries ≡ states → AreLooked plan start entries states first point
+    (plan : Plan) (start : Point) (visits : List Visit) (first : Option ℕ) (point : ℕ → Point)
+    → length visits ≡ states → AreLooked plan start visits states first point
     → AreEdges plan edges.threads edges.pairs.items edges.waits.items states states point → so plan point
 
 -- the thread's wait is lost at this point, and at none before it
@@ -135,13 +135,13 @@ one_more_if true count = count + 1
 one_more_if false count = count
 
 -- where the bound is reported, none hangs and a state is left, which lies a step deeper than the level
-abbrev pub LiesAt : List Entry → ℕ → Option ℕ → Verdict → Type 0
-LiesAt entries looked first (verdict.Met level) =
-    (first ≡ None) × (looked < length entries)
+abbrev pub LiesAt : List Visit → ℕ → Option ℕ → OrderVerdict → Type 0
+LiesAt visits looked first (verdict.Met level) =
+    (first ≡ None) × (looked < length visits)
     × (way : List ℕ) × (length way ≡ level + 1)
-    × ((plan : Plan) (start : Point) (point : ℕ → Point) → IsWalk plan start entries point → Arrives plan start way (point looked))
-LiesAt entries looked first verdict.None = Unit {0}
-LiesAt entries looked first (verdict.Hangs lanes loss) = Unit {0}
+    × ((plan : Plan) (start : Point) (point : ℕ → Point) → IsWalk plan start visits point → Arrives plan start way (point looked))
+LiesAt visits looked first verdict.None = Unit {0}
+LiesAt visits looked first (verdict.Hangs lanes loss) = Unit {0}
 
 -- the first that hangs, where the next one hangs or does not
 abbrev pub first_then : Bool → ℕ → Option ℕ → Option ℕ

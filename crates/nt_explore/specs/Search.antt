@@ -8,8 +8,8 @@ use Rattle.nt_explore.specs.declared.plan.Ask.{Ask}
 use Rattle.nt_explore.specs.declared.plan.Ask.TheVariants.{Call, Tick}
 use Rattle.nt_explore.specs.declared.explored.Explored.{Explored}
 use Rattle.nt_explore.specs.declared.explored.Loss.{Loss}
-use Rattle.nt_explore.specs.declared.explored.Verdict.{Verdict}
-use Rattle.nt_explore.specs.declared.explored.Verdict.TheVariants as verdict
+use Rattle.nt_explore.specs.declared.explored.OrderVerdict.{OrderVerdict}
+use Rattle.nt_explore.specs.declared.explored.OrderVerdict.TheVariants as verdict
 
 -- what is asked, in the words of orders
 abbrev pub asked : Ask → orders.Ask
@@ -30,13 +30,13 @@ TellsLoss plan start (Some loss) = IsShortestLoss plan start loss.lanes.items lo
 TellsLoss plan start None = Unit {0}
 
 -- where an order hangs, a loss is told
-abbrev pub HasLoss : Verdict → Type 0
+abbrev pub HasLoss : OrderVerdict → Type 0
 HasLoss (verdict.Hangs lanes loss) = IsSome loss
 HasLoss verdict.None = Unit {0}
 HasLoss (verdict.Met level) = Unit {0}
 
 -- what a verdict says of all orders from here
-abbrev pub TellsVerdict : Plan → Point → Verdict → Type 0
+abbrev pub TellsVerdict : Plan → Point → OrderVerdict → Type 0
 TellsVerdict plan start (verdict.Hangs lanes loss) = IsShortestHang plan start lanes.items × TellsLoss plan start loss
 TellsVerdict plan start verdict.None = NoneHangs plan start
 TellsVerdict plan start (verdict.Met level) = NoneHangsWithin plan start level
@@ -99,7 +99,7 @@ pub record IsBoundMet (plan : Plan) (start next : Point) (most looked level stat
   pub deep : (lanes : List ℕ) × (length lanes ≡ level + 1) × Order plan start lanes next
 
 -- that the bound was met is reported only where it was
-abbrev pub TellsBound : Plan → (start next : Point) → (most looked states hangs : ℕ) → Verdict → Type 0
+abbrev pub TellsBound : Plan → (start next : Point) → (most looked states hangs : ℕ) → OrderVerdict → Type 0
 TellsBound plan start next most looked states hangs (verdict.Met level) = IsBoundMet plan start next most looked level states hangs
 TellsBound plan start next most looked states hangs verdict.None = Unit {0}
 TellsBound plan start next most looked states hangs (verdict.Hangs lanes loss) = Unit {0}

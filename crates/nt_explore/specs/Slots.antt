@@ -1,6 +1,6 @@
 -- How the states that were met are found by their hashes. No public clause cites this module.
 use Rattle.std.specs.Prelude.{◌≡◌, ◌≢◌, ◌<◌, ◌≤◌, ◌+◌, ◌-◌, ◌%◌, ℕ, zero, suc, List, [], ◌∷◌, length, slice_index, slice_set, nat_lt, if◌then◌else◌}
-use Rattle.nt_explore.specs.declared.met.Entry.{Entry}
+use Rattle.nt_explore.specs.declared.met.Visit.{Visit}
 use Rattle.nt_explore.specs.Walk.{hash_at, AreBehind}
 
 -- the slot so many steps after this one, of so many: the first comes after the last
@@ -36,11 +36,11 @@ used (zero ∷ slots) = used slots
 used (suc number ∷ slots) = used slots + 1
 
 -- of the first n states, each but the start stands in the slots
-abbrev pub AreInSlots : List Entry → ℕ → List ℕ → Type 0
-AreInSlots entries n slots = (i : ℕ) → 0 < i → i < n → StandsIn slots (length slots) (hash_at entries i) (i + 1)
+abbrev pub AreInSlots : List Visit → ℕ → List ℕ → Type 0
+AreInSlots visits n slots = (i : ℕ) → 0 < i → i < n → StandsIn slots (length slots) (hash_at visits i) (i + 1)
 
 -- the states that were met, and the slots in which they stand
-pub record IsTable (entries : List Entry) (slots : List ℕ) : Type 0 where
-  pub behind : AreBehind entries
-  pub stands : AreInSlots entries (length entries) slots
-  pub few : used slots ≤ length entries
+pub record IsTable (visits : List Visit) (slots : List ℕ) : Type 0 where
+  pub behind : AreBehind visits
+  pub stands : AreInSlots visits (length visits) slots
+  pub few : used slots ≤ length visits

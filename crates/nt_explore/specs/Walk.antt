@@ -7,58 +7,58 @@ use Rattle.nt_look.specs.Orders.{Plan, Point, Goes, steps}
 use Rattle.nt_explore.specs.Search.{AreDistinct, CanGo, CountsTo, IsOneIf}
 use Rattle.nt_explore.specs.Hash.{hash_of}
 use Rattle.nt_explore.specs.declared.loss.Edge.{Edge}
-use Rattle.nt_explore.specs.declared.met.Entry.{Entry}
-use Rattle.nt_explore.specs.declared.place.Place.{Place}
+use Rattle.nt_explore.specs.declared.met.Visit.{Visit}
+use Rattle.nt_explore.specs.declared.position.Position.{Position}
 
 -- how far the lanes are, in this dispatcher
 abbrev pub point_at : List ℕ → Dispatcher → Point
 point_at places core = record { at = places; state = state core }
 
-abbrev pub point_of : Place → Point
-point_of place = point_at place.places.items place.core
+abbrev pub point_of : Position → Point
+point_of position = point_at position.places.items position.core
 
 -- these lanes went, the last first
 abbrev pub Arrives : Plan → Point → List ℕ → Point → Type 0
 Arrives plan start [] p = p ≡ start
 Arrives plan start (lane ∷ lanes) p = (mid : Point) × Arrives plan start lanes mid × Goes plan mid lane p
 
--- what is read past the last entry
-abbrev pub no_entry : Entry
-no_entry = record { hash = 0; lane = 0; parent = 0 }
+-- what is read past the last visit
+abbrev pub no_visit : Visit
+no_visit = record { hash = 0; lane = 0; parent = 0 }
 
-abbrev pub parent_of : List Entry → ℕ → ℕ
-parent_of entries i = (slice_index_or entries i no_entry).parent
+abbrev pub parent_of : List Visit → ℕ → ℕ
+parent_of visits i = (slice_index_or visits i no_visit).parent
 
-abbrev pub lane_of : List Entry → ℕ → ℕ
-lane_of entries i = (slice_index_or entries i no_entry).lane
+abbrev pub lane_of : List Visit → ℕ → ℕ
+lane_of visits i = (slice_index_or visits i no_visit).lane
 
-abbrev pub hash_at : List Entry → ℕ → ℕ
-hash_at entries i = (slice_index_or entries i no_entry).hash
+abbrev pub hash_at : List Visit → ℕ → ℕ
+hash_at visits i = (slice_index_or visits i no_visit).hash
 
 -- each state but the first came from one before it
-abbrev pub AreBehind : List Entry → Type 0
-AreBehind entries = (i : ℕ) → 0 < i → i < length entries → parent_of entries i < i
+abbrev pub AreBehind : List Visit → Type 0
+AreBehind visits = (i : ℕ) → 0 < i → i < length visits → parent_of visits i < i
 
 -- these are the points that were met, no two the same: the first is the start, and each other one came from its parent by its lane,
 -- and has its hash
-pub record IsWalk (plan : Plan) (start : Point) (entries : List Entry) (point : ℕ → Point) : Type 0 where
-  pub some : 0 < length entries
+pub record IsWalk (plan : Plan) (start : Point) (visits : List Visit) (point : ℕ → Point) : Type 0 where
+  pub some : 0 < length visits
   pub first : point 0 ≡ start
-  pub behind : AreBehind entries
-  pub wide : (i : ℕ) → i < length entries → length (point i).at ≡ length plan
-  pub came : (i : ℕ) → 0 < i → i < length entries → Goes plan (point (parent_of entries i)) (lane_of entries i) (point i)
-  pub hashed : (i : ℕ) → 0 < i → i < length entries → hash_at entries i ≡ hash_of (point i)
-  pub differ : AreDistinct point (length entries)
+  pub behind : AreBehind visits
+  pub wide : (i : ℕ) → i < length visits → length (point i).at ≡ length plan
+  pub came : (i : ℕ) → 0 < i → i < length visits → Goes plan (point (parent_of visits i)) (lane_of visits i) (point i)
+  pub hashed : (i : ℕ) → 0 < i → i < length visits → hash_at visits i ≡ hash_of (point i)
+  pub differ : AreDistinct point (length visits)
 
 -- the same points, and perhaps more
-pub record Grows (plan : Plan) (start : Point) (old new : List Entry) (point points : ℕ → Point) : Type 0 where
+pub record Grows (plan : Plan) (start : Point) (old new : List Visit) (point points : ℕ → Point) : Type 0 where
   pub walk : IsWalk plan start new points
   pub longer : length old ≤ length new
   pub same : (i : ℕ) → i < length old → points i ≡ point i
 
 -- one of the points is this one
-abbrev pub HasPoint : List Entry → (ℕ → Point) → Point → Type 0
-HasPoint entries point p = (j : ℕ) × (j < length entries) × (point j ≡ p)
+abbrev pub HasPoint : List Visit → (ℕ → Point) → Point → Type 0
+HasPoint visits point p = (j : ℕ) × (j < length visits) × (point j ≡ p)
 
 -- whether the lane went, and where it led
 abbrev pub Went : Plan → Point → ℕ → Bool → Point → Type 0
@@ -69,15 +69,15 @@ Went plan old lane false new = (new ≡ old) × ((q : Point) → Goes plan old l
 abbrev pub IsWide : Plan → Point → Type 0
 IsWide plan p = length p.at ≡ length plan
 
--- if the entry has this hash, it is not this point's
-abbrev pub IsOther : Plan → Point → List Entry → ℕ → Point → ℕ → Type 0
-IsOther plan start entries hash p i =
-    i < length entries → hash_at entries i ≡ hash → (point : ℕ → Point) → IsWalk plan start entries point → point i ≢ p
+-- if the visit has this hash, it is not this point's
+abbrev pub IsOther : Plan → Point → List Visit → ℕ → Point → ℕ → Type 0
+IsOther plan start visits hash p i =
+    i < length visits → hash_at visits i ≡ hash → (point : ℕ → Point) → IsWalk plan start visits point → point i ≢ p
 
 -- what was found by this hash is this point; and where nothing was, none is, but perhaps the start
-abbrev pub IsFound : Plan → Point → List Entry → ℕ → Point → Option ℕ → Type 0
-IsFound plan start entries hash p None = (i : ℕ) → 0 < i → IsOther plan start entries hash p i
-IsFound plan start entries hash p (Some j) = (j < length entries) × ((point : ℕ → Point) → IsWalk plan start entries point → point j ≡ p)
+abbrev pub IsFound : Plan → Point → List Visit → ℕ → Point → Option ℕ → Type 0
+IsFound plan start visits hash p None = (i : ℕ) → 0 < i → IsOther plan start visits hash p i
+IsFound plan start visits hash p (Some j) = (j < length visits) × ((point : ℕ → Point) → IsWalk plan start visits point → point j ≡ p)
 
 -- from a state to one to which a lane leads
 abbrev pub edge : ℕ → ℕ → Edge
@@ -96,7 +96,7 @@ pub record Leads (plan : Plan) (p : Point) (index states : ℕ) (points : ℕ �
   pub all : (lane : ℕ) (q : Point) → tried lane → Goes plan p lane q → (e : Edge) × Contains new e × (e.from ≡ index) × (e.to < states) × (points e.to ≡ q)
 
 -- the lane leads to this point, which is one of them now
-pub record Meets (plan : Plan) (start : Point) (old new : List Entry) (p : Point) (j : ℕ) (point : ℕ → Point) : Type 0 where
+pub record Meets (plan : Plan) (start : Point) (old new : List Visit) (p : Point) (j : ℕ) (point : ℕ → Point) : Type 0 where
   pub points : ℕ → Point
   pub grows : Grows plan start old new point points
   pub there : j < length new
@@ -108,7 +108,7 @@ abbrev pub CanGoTo : Plan → Point → Point → Type 0
 CanGoTo plan p q = (lane : ℕ) × Goes plan p lane q
 
 -- each of the first lanes leads from this point to one of them
-pub record Tries (plan : Plan) (start : Point) (old new : List Entry) (pairs more : List Edge) (p : Point) (index lanes : ℕ) (point : ℕ → Point) : Type 0 where
+pub record Tries (plan : Plan) (start : Point) (old new : List Visit) (pairs more : List Edge) (p : Point) (index lanes : ℕ) (point : ℕ → Point) : Type 0 where
   pub points : ℕ → Point
   pub grows : Grows plan start old new point points
   pub deep : (i : ℕ) → length old ≤ i → i < length new → steps (points i).at ≡ steps p.at + 1
@@ -118,7 +118,7 @@ pub record Tries (plan : Plan) (start : Point) (old new : List Entry) (pairs mor
   pub count : (steps : ℕ) × CountsTo (CanGo plan p) lanes steps × (length more ≡ length pairs + steps)
 
 -- one more lane leads from this point to one of them
-pub record TriesLane (plan : Plan) (start : Point) (old new : List Entry) (pairs more : List Edge) (p : Point) (index lane : ℕ) (point : ℕ → Point) : Type 0 where
+pub record TriesLane (plan : Plan) (start : Point) (old new : List Visit) (pairs more : List Edge) (p : Point) (index lane : ℕ) (point : ℕ → Point) : Type 0 where
   pub points : ℕ → Point
   pub grows : Grows plan start old new point points
   pub deep : (i : ℕ) → length old ≤ i → i < length new → steps (points i).at ≡ steps p.at + 1
@@ -140,22 +140,22 @@ abbrev pub GoesOn : Plan → Point → ℕ → Point → Type 0
 GoesOn plan old lane new = (q : Point) → Goes plan old lane q → Goes plan old lane new
 
 -- whatever points were met, the one to which the lane leads from the parent is one of them now
-abbrev pub MeetsFrom : Plan → Point → (old new : List Entry) → ℕ → ℕ → Point → ℕ → Type 0
+abbrev pub MeetsFrom : Plan → Point → (old new : List Visit) → ℕ → ℕ → Point → ℕ → Type 0
 MeetsFrom plan start old new parent lane p j =
     (point : ℕ → Point) → IsWalk plan start old point → Goes plan (point parent) lane p → Meets plan start old new p j point
 
 -- whatever points were met, each of the first lanes is tried from the one with this number, which is this one
-abbrev pub TriesAt : Plan → Point → (old new : List Entry) → (pairs more : List Edge) → Point → ℕ → ℕ → Type 0
+abbrev pub TriesAt : Plan → Point → (old new : List Visit) → (pairs more : List Edge) → Point → ℕ → ℕ → Type 0
 TriesAt plan start old new pairs more p index lanes =
     (point : ℕ → Point) → IsWalk plan start old point → point index ≡ p → Tries plan start old new pairs more p index lanes point
 
 -- the same of one lane more
-abbrev pub TriesLaneAt : Plan → Point → (old new : List Entry) → (pairs more : List Edge) → Point → ℕ → ℕ → Type 0
+abbrev pub TriesLaneAt : Plan → Point → (old new : List Visit) → (pairs more : List Edge) → Point → ℕ → ℕ → Type 0
 TriesLaneAt plan start old new pairs more p index lane =
     (point : ℕ → Point) → IsWalk plan start old point → point index ≡ p → TriesLane plan start old new pairs more p index lane point
 
 -- the same of one that leads to this point
-abbrev pub TriesLaneTo : Plan → Point → (old new : List Entry) → (pairs more : List Edge) → ℕ → ℕ → Point → Type 0
+abbrev pub TriesLaneTo : Plan → Point → (old new : List Visit) → (pairs more : List Edge) → ℕ → ℕ → Point → Type 0
 TriesLaneTo plan start old new pairs more index lane next =
     (p : Point) → IsWide plan p → (point : ℕ → Point) → IsWalk plan start old point → point index ≡ p → Goes plan p lane next
     → TriesLane plan start old new pairs more p index lane point

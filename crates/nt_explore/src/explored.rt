@@ -9,12 +9,12 @@ pub struct Explored {
     pub steps: usize,
     /// How many of those that were looked at hang.
     pub hangs: usize,
-    pub verdict: Verdict,
+    pub verdict: OrderVerdict,
 }
 
 /// Whether an order hangs.
 #[derive(Drop)]
-pub enum Verdict {
+pub enum OrderVerdict {
     /// An order that hangs, by the lanes that go: no shorter one hangs. And since when a wait was lost, where all states were met.
     Hangs { lanes: Vec<u32>, loss: Option<Loss> },
     /// No order hangs.

@@ -7,8 +7,8 @@ ghost use Rattle.nt_look.specs.Orders.{Calls, Passes, IsAskMade, asks};
 ghost use Rattle.nt_explore.specs.Search.{asked};
 ghost use Rattle.nt_explore.specs.Walk.{point_of, GoesOn, Went};
 
-use crate::place::Place;
 use crate::plan::{Ask, Plan};
+use crate::position::Position;
 use nt_calls::{Call, Reply};
 use nt_core::Core;
 use nt_status::{Moment, Refusal};
@@ -58,46 +58,46 @@ fn make(core: &mut Core, thread: u32, ask: &Ask) -> Result<(), AllocError>
 }
 
 /// Whether the lane can go: its thread does not wait, and something is left for it.
-pub fn can_go(plan: &Plan, place: &Place, lane: u32) -> bool
-    requires wide { length place.now.places.items ≡ length plan.now }
+pub fn can_go(plan: &Plan, position: &Position, lane: u32) -> bool
+    requires wide { length position.now.places.items ≡ length plan.now }
     requires there { lane < length plan.now }
-    ensures { result ≡ not (pends (state place.now.core) lane)
-        && is_some (slice_get (asks plan.now lane) (slice_index_or place.now.places.items lane 0)) }
+    ensures { result ≡ not (pends (state position.now.core) lane)
+        && is_some (slice_get (asks plan.now lane) (slice_index_or position.now.places.items lane 0)) }
 {
-    let at = place.places[lane as usize];
-    !place.core.is_waiting(lane) && plan.ask(lane, at).is_some()
+    let at = position.places[lane as usize];
+    !position.core.is_waiting(lane) && plan.ask(lane, at).is_some()
 }
 
 /// Lets the lane go, and tells whether it went: not where its thread waits, or nothing is left for it.
-pub fn go(plan: &Plan, place: &mut Place, lane: u32) -> Result<bool, AllocError>
-    requires wide { length place.old.places.items ≡ length plan.now }
+pub fn go(plan: &Plan, position: &mut Position, lane: u32) -> Result<bool, AllocError>
+    requires wide { length position.old.places.items ≡ length plan.now }
     requires there { lane < length plan.now }
-    ensures point { IfOk result (λ went. Went plan.now (point_of place.old) lane went (point_of place.new)) }
-    ensures wide { OnOk result (length place.new.places.items ≡ length plan.now) }
-    ensures threads { (state place.new.core).threads ≡ (state place.old.core).threads }
+    ensures point { IfOk result (λ went. Went plan.now (point_of position.old) lane went (point_of position.new)) }
+    ensures wide { OnOk result (length position.new.places.items ≡ length plan.now) }
+    ensures threads { (state position.new.core).threads ≡ (state position.old.core).threads }
 {
-    if place.core.is_waiting(lane) {
+    if position.core.is_waiting(lane) {
         return Ok(false);
     }
-    let at = place.places[lane as usize];
+    let at = position.places[lane as usize];
     let Some(ask) = plan.ask(lane, at) else {
         return Ok(false);
     };
-    make(&mut place.core, lane, ask)?;
-    place.places[lane as usize] = at + 1;
+    make(&mut position.core, lane, ask)?;
+    position.places[lane as usize] = at + 1;
     Ok(true)
 }
 
 /// Lets the lane go, which can.
-pub fn go_on(plan: &Plan, place: &mut Place, lane: u32) -> Result<(), AllocError>
-    requires wide { length place.old.places.items ≡ length plan.now }
-    ensures point { OnOk result (GoesOn plan.now (point_of place.old) lane (point_of place.new)) }
-    ensures wide { OnOk result (length place.new.places.items ≡ length plan.now) }
-    ensures threads { (state place.new.core).threads ≡ (state place.old.core).threads }
+pub fn go_on(plan: &Plan, position: &mut Position, lane: u32) -> Result<(), AllocError>
+    requires wide { length position.old.places.items ≡ length plan.now }
+    ensures point { OnOk result (GoesOn plan.now (point_of position.old) lane (point_of position.new)) }
+    ensures wide { OnOk result (length position.new.places.items ≡ length plan.now) }
+    ensures threads { (state position.new.core).threads ≡ (state position.old.core).threads }
 {
     if lane as usize >= plan.lanes() {
         return Ok(());
     }
-    go(plan, place, lane)?;
+    go(plan, position, lane)?;
     Ok(())
 }

@@ -6,8 +6,8 @@ ghost use Rattle.nt_look.specs.Hangs.{marked};
 ghost use Rattle.nt_look.specs.Orders.{Hangs, asks, goes_on};
 ghost use Rattle.nt_explore.specs.Walk.{point_of, WaitsAmong, NoneWaitsAmong};
 
-use crate::place::Place;
 use crate::plan::Plan;
+use crate::position::Position;
 use nt_core::Core;
 use nt_look::{greatest_knot, is_stuck};
 use std::alloc::{AllocError, Global};
@@ -18,29 +18,29 @@ fn has_more(plan: &Plan, places: &[usize], lane: u32) -> bool
     ensures { result ≡ nat_lt (slice_index_or places.now lane 0) (length (asks plan.now lane)) }
 {
     match places.get(lane as usize) {
-        Some(place) => plan.ask(lane, *place).is_some(),
+        Some(position) => plan.ask(lane, *position).is_some(),
         None => false,
     }
 }
 
 /// Whether the thread makes a call still, or waits.
-fn goes_on(plan: &Plan, place: &Place, thread: u32) -> bool
-    requires { length place.now.places.items ≡ length plan.now }
-    ensures { result ≡ goes_on plan.now (point_of place.now) thread }
+fn goes_on(plan: &Plan, position: &Position, thread: u32) -> bool
+    requires { length position.now.places.items ≡ length plan.now }
+    ensures { result ≡ goes_on plan.now (point_of position.now) thread }
 {
-    has_more(plan, &place.places, thread) || place.core.is_waiting(thread)
+    has_more(plan, &position.places, thread) || position.core.is_waiting(thread)
 }
 
 /// By thread, whether it makes no further call.
-fn over_at(alloc: Global, plan: &Plan, place: &Place) -> Result<Vec<bool>, AllocError>
-    requires { length place.now.places.items ≡ length plan.now }
-    ensures point { IfOk result (λ over. (t : ℕ) → t < (state place.now.core).threads
-        → marked over.items t ≡ not (goes_on plan.now (point_of place.now) t)) }
-    ensures count { IfOk result (λ over. length over.items ≡ (state place.now.core).threads) }
+fn over_at(alloc: Global, plan: &Plan, position: &Position) -> Result<Vec<bool>, AllocError>
+    requires { length position.now.places.items ≡ length plan.now }
+    ensures point { IfOk result (λ over. (t : ℕ) → t < (state position.now.core).threads
+        → marked over.items t ≡ not (goes_on plan.now (point_of position.now) t)) }
+    ensures count { IfOk result (λ over. length over.items ≡ (state position.now.core).threads) }
 {
     let mut over = Vec::new(alloc);
-    for thread in 0..place.core.threads() {
-        over.push(!goes_on(plan, place, thread))?;
+    for thread in 0..position.core.threads() {
+        over.push(!goes_on(plan, position, thread))?;
     }
     Ok(over)
 }
@@ -82,19 +82,19 @@ fn is_among(among: &[bool], thread: u32) -> bool
 }
 
 /// Whether a wait pends here that nothing can end.
-pub fn hangs(alloc: Global, plan: &Plan, place: &Place) -> Result<bool, AllocError>
-    requires { length place.now.places.items ≡ length plan.now }
-    ensures { IfOk result (λ hangs. (hangs ≡ true) ↔ Hangs plan.now (point_of place.now)) }
+pub fn hangs(alloc: Global, plan: &Plan, position: &Position) -> Result<bool, AllocError>
+    requires { length position.now.places.items ≡ length plan.now }
+    ensures { IfOk result (λ hangs. (hangs ≡ true) ↔ Hangs plan.now (point_of position.now)) }
 {
-    place.core.stands();
-    place.core.owners_stand();
-    if !one_waits(&place.core) {
+    position.core.stands();
+    position.core.owners_stand();
+    if !one_waits(&position.core) {
         return Ok(false);
     }
-    let over = over_at(alloc, plan, place)?;
-    if is_stuck(&place.core, &over) {
+    let over = over_at(alloc, plan, position)?;
+    if is_stuck(&position.core, &over) {
         return Ok(true);
     }
-    let knot = greatest_knot(alloc, &place.core, &over)?;
-    Ok(has_waiting(&place.core, &knot))
+    let knot = greatest_knot(alloc, &position.core, &over)?;
+    Ok(has_waiting(&position.core, &knot))
 }

@@ -1,4 +1,4 @@
-//! A number for a place and a state, by which an equal one is looked for. Equal ones have equal numbers. Two others that have the same
+//! A number for a position and a state, by which an equal one is looked for. Equal ones have equal numbers. Two others that have the same
 //! number cost the search one of them made again, so it sees all in which states differ.
 ghost use Rattle.std.specs.Prelude.{◌≡◌, Some, slice_get};
 ghost use Rattle.std.specs.FinMap as map;
@@ -132,8 +132,8 @@ fn hash_of_apcs(hash: u32, core: &Core, thread: u32) -> u32
     ensures { result ≡ mixed_apcs (apc_queue_of (state core.now).apcs thread) hash }
 {
     let mut so_far = hash;
-    for place in 0..usize::MAX {
-        let Some(queued) = core.apc_at(thread, place) else {
+    for position in 0..usize::MAX {
+        let Some(queued) = core.apc_at(thread, position) else {
             return so_far;
         };
         so_far = hash_of_apc(so_far, &queued);

@@ -6,7 +6,7 @@
 //! from there on, which makes them few: 17,153,136 orders of 3 threads with 6 calls each come to 422 states.
 //!
 //! The search goes level by level: first all states after one step, then all after two, and so on. So the first state that hangs is one
-//! that a shortest order comes to ([`Verdict::Hangs`]).
+//! that a shortest order comes to ([`OrderVerdict::Hangs`]).
 //!
 //! **No state is kept.** Of each that was met the table has 16 bytes: a hash, the state that it came from, and the lane that went. Where a
 //! hash is known already, that state is made again, from the start and the lanes that led there, and the two are compared
@@ -23,10 +23,10 @@ mod hanging;
 mod hash;
 mod loss;
 mod met;
-mod place;
 mod plan;
+mod position;
 mod search;
 
-pub use explored::{Explored, Loss, Verdict};
+pub use explored::{Explored, Loss, OrderVerdict};
 pub use plan::{Ask, Plan};
 pub use search::{Watcher, explore};

@@ -9,8 +9,8 @@ ghost use Rattle.nt_explore.specs.Levels as levels;
 ghost use Rattle.nt_explore.specs.Levels.{OfLooked, OfSearch, IsRow, IsColumn, IsFirstMark, IsFirstLost, IsFirstLoss};
 
 use crate::explored::Loss;
-use crate::met::{Entry, way_to};
-use crate::place::Place;
+use crate::met::{Visit, way_to};
+use crate::position::Position;
 use std::alloc::{AllocError, Global};
 
 /// A lane leads from a state to another.
@@ -59,18 +59,22 @@ pub fn lead(pairs: &mut Vec<Edge>, from: usize, to: usize) -> Result<(), AllocEr
 }
 
 /// Notes who of the threads waits in a state, the next one.
-pub fn note_waits(waits: &mut Vec<bool>, threads: u32, place: &Place) -> Result<(), AllocError>
-    ensures row { OnOk result (IsRow waits.old.items waits.new.items threads (state place.now.core)) }
-    ensures known { (t : ℕ) → pends (state place.now.core) t ≡ true → t < (state place.now.core).threads }
+pub fn note_waits(
+    waits: &mut Vec<bool>,
+    threads: u32,
+    position: &Position,
+) -> Result<(), AllocError>
+    ensures row { OnOk result (IsRow waits.old.items waits.new.items threads (state position.now.core)) }
+    ensures known { (t : ℕ) → pends (state position.now.core) t ≡ true → t < (state position.now.core).threads }
 {
-    place.core.stands();
+    position.core.stands();
     for thread in 0..threads {
-        waits.push(place.core.is_waiting(thread))?;
+        waits.push(position.core.is_waiting(thread))?;
     }
     Ok(())
 }
 
-/// The mark at this place.
+/// The mark at this position.
 fn is_marked(marks: &[bool], at: usize) -> bool
     ensures { result ≡ marked marks.now at }
 {
@@ -80,7 +84,7 @@ fn is_marked(marks: &[bool], at: usize) -> bool
     }
 }
 
-/// Takes the mark at this place away.
+/// Takes the mark at this position away.
 fn unmark(marks: &mut [bool], at: usize)
     ensures { marks.new ≡ slice_set marks.old at false }
 {
@@ -201,23 +205,23 @@ fn first_lost(
 /// Since when a wait was lost, where all states were looked at; none where no wait is ever lost.
 pub fn first_loss(
     alloc: Global,
-    entries: &[Entry],
+    visits: &[Visit],
     edges: &Edges,
 ) -> Result<Option<Loss>, AllocError>
-    requires behind { AreBehind entries.now }
+    requires behind { AreBehind visits.now }
     ensures told { IfOk result (λ loss. (first : Option ℕ)
-        → OfSearch entries.now edges.now (length entries.now) first (λ plan start. TellsLoss plan start loss)) }
+        → OfSearch visits.now edges.now (length visits.now) first (λ plan start. TellsLoss plan start loss)) }
     ensures whole { IfOk result (λ loss. (h : ℕ)
-        → OfSearch entries.now edges.now (length entries.now) (Some h) (λ plan start. IsSome loss)) }
+        → OfSearch visits.now edges.now (length visits.now) (Some h) (λ plan start. IsSome loss)) }
 {
-    let found = first_lost(alloc, edges, entries.len())?;
+    let found = first_lost(alloc, edges, visits.len())?;
     let Some((state, thread)) = found else {
         return Ok(None);
     };
-    if state >= entries.len() {
+    if state >= visits.len() {
         return Ok(None);
     }
-    let mut lanes = way_to(alloc, entries, state)?;
+    let mut lanes = way_to(alloc, visits, state)?;
     lanes.reverse();
     Ok(Some(Loss { lanes, thread }))
 }

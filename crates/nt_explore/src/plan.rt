@@ -49,16 +49,16 @@ fn empty_lanes(alloc: Global, count: usize) -> Result<Vec<Vec<Ask>>, AllocError>
     Ok(lanes)
 }
 
-/// What is done at this place; none at the end.
-fn ask_in(asks: &[Ask], place: usize) -> Option<&Ask>
-    ensures ask { option_copied result ≡ slice_get asks.now place }
-    ensures few { IsSome result → place + 1 < 2 ^ 64 }
+/// What is done at this position; none at the end.
+fn ask_in(asks: &[Ask], position: usize) -> Option<&Ask>
+    ensures ask { option_copied result ≡ slice_get asks.now position }
+    ensures few { IsSome result → position + 1 < 2 ^ 64 }
 {
     let count = asks.len();
-    if place >= count {
+    if position >= count {
         return None;
     }
-    asks.get(place)
+    asks.get(position)
 }
 
 impl Plan {
@@ -92,12 +92,12 @@ impl Plan {
         self.lanes.len()
     }
 
-    /// What the lane does at this place; none where it is at its end.
-    pub fn ask(&self, lane: u32, place: usize) -> Option<&Ask>
-        ensures ask { option_map asked (option_copied result) ≡ slice_get (asks self.now lane) place }
-        ensures few { IsSome result → place + 1 < 2 ^ 64 }
+    /// What the lane does at this position; none where it is at its end.
+    pub fn ask(&self, lane: u32, position: usize) -> Option<&Ask>
+        ensures ask { option_map asked (option_copied result) ≡ slice_get (asks self.now lane) position }
+        ensures few { IsSome result → position + 1 < 2 ^ 64 }
     {
         let asks = self.lanes.get(lane as usize)?;
-        ask_in(asks, place)
+        ask_in(asks, position)
     }
 }

@@ -7,13 +7,13 @@ ghost use Rattle.nt_explore.specs.Walk.{point_of, AreBehind, LeadsTo, TriesAt, T
 ghost use Rattle.nt_explore.specs.Slots.{IsTable};
 ghost use Rattle.nt_explore.specs.Levels.{LiesAt, LooksOn, OfSearch, first_then, one_more_if};
 
-use crate::explored::{Explored, Loss, Verdict};
+use crate::explored::{Explored, Loss, OrderVerdict};
 use crate::going::{can_go, go};
 use crate::hanging::hangs;
 use crate::loss::{Edge, Edges, first_loss, lead, no_edges, note_waits};
-use crate::met::{Entry, Met, again, way_to};
-use crate::place::{Place, copy_of};
+use crate::met::{Met, Visit, again, way_to};
 use crate::plan::Plan;
+use crate::position::{Position, copy_of};
 use nt_core::Core;
 use std::alloc::{AllocError, Global};
 
@@ -34,21 +34,21 @@ struct Counts {
     first: Option<usize>,
 }
 
-/// The place to which the lane leads; none where it does not go.
+/// The position to which the lane leads; none where it does not go.
 fn next_of(
     alloc: Global,
     plan: &Plan,
-    place: &Place,
+    position: &Position,
     lane: u32,
-) -> Result<Option<Place>, AllocError>
-    requires wide { length place.now.places.items ≡ length plan.now }
+) -> Result<Option<Position>, AllocError>
+    requires wide { length position.now.places.items ≡ length plan.now }
     requires known { lane < length plan.now }
-    ensures { IfOk result (λ next. LeadsTo plan.now (point_of place.now) lane (option_map point_of next)) }
+    ensures { IfOk result (λ next. LeadsTo plan.now (point_of position.now) lane (option_map point_of next)) }
 {
-    if !can_go(plan, place, lane) {
+    if !can_go(plan, position, lane) {
         return Ok(None);
     }
-    let mut next = copy_of(alloc, place)?;
+    let mut next = copy_of(alloc, position)?;
     if go(plan, &mut next, lane)? {
         Ok(Some(next))
     } else {
@@ -56,75 +56,75 @@ fn next_of(
     }
 }
 
-/// Meets the place to which the lane leads from the state with this number.
+/// Meets the position to which the lane leads from the state with this number.
 fn meet_next(
     alloc: Global,
     start: &Core,
     plan: &Plan,
     met: &mut Met,
     pairs: &mut Vec<Edge>,
-    next: &Place,
+    next: &Position,
     index: usize,
     lane: u32,
 ) -> Result<(), AllocError>
-    requires table { IsTable met.old.entries.items met.old.slots.items }
-    requires there { index < length met.old.entries.items }
-    ensures point { OnOk result (TriesLaneTo plan.now (start_of plan.now start.now) met.old.entries.items met.new.entries.items
+    requires table { IsTable met.old.visits.items met.old.slots.items }
+    requires there { index < length met.old.visits.items }
+    ensures point { OnOk result (TriesLaneTo plan.now (start_of plan.now start.now) met.old.visits.items met.new.visits.items
         pairs.old.items pairs.new.items index lane (point_of next.now)) }
-    ensures table { OnOk result (IsTable met.new.entries.items met.new.slots.items) }
-    ensures longer { OnOk result (length met.old.entries.items ≤ length met.new.entries.items) }
+    ensures table { OnOk result (IsTable met.new.visits.items met.new.slots.items) }
+    ensures longer { OnOk result (length met.old.visits.items ≤ length met.new.visits.items) }
 {
     let to = met.meet(alloc, start, plan, next, index, lane)?;
     lead(pairs, index, to)
 }
 
-/// Tries one lane from the place, which is the state with this number.
+/// Tries one lane from the position, which is the state with this number.
 fn try_lane(
     alloc: Global,
     start: &Core,
     plan: &Plan,
     met: &mut Met,
     pairs: &mut Vec<Edge>,
-    place: &Place,
+    position: &Position,
     index: usize,
     lane: u32,
 ) -> Result<(), AllocError>
-    requires table { IsTable met.old.entries.items met.old.slots.items }
-    requires there { index < length met.old.entries.items }
-    requires wide { length place.now.places.items ≡ length plan.now }
+    requires table { IsTable met.old.visits.items met.old.slots.items }
+    requires there { index < length met.old.visits.items }
+    requires wide { length position.now.places.items ≡ length plan.now }
     requires known { lane < length plan.now }
-    ensures point { OnOk result (TriesLaneAt plan.now (start_of plan.now start.now) met.old.entries.items met.new.entries.items
-        pairs.old.items pairs.new.items (point_of place.now) index lane) }
-    ensures table { OnOk result (IsTable met.new.entries.items met.new.slots.items) }
-    ensures longer { OnOk result (length met.old.entries.items ≤ length met.new.entries.items) }
+    ensures point { OnOk result (TriesLaneAt plan.now (start_of plan.now start.now) met.old.visits.items met.new.visits.items
+        pairs.old.items pairs.new.items (point_of position.now) index lane) }
+    ensures table { OnOk result (IsTable met.new.visits.items met.new.slots.items) }
+    ensures longer { OnOk result (length met.old.visits.items ≤ length met.new.visits.items) }
 {
-    let next = next_of(alloc, plan, place, lane)?;
+    let next = next_of(alloc, plan, position, lane)?;
     match next {
         None => Ok(()),
         Some(next) => meet_next(alloc, start, plan, met, pairs, &next, index, lane),
     }
 }
 
-/// Tries each lane from the place, which is the state with this number.
+/// Tries each lane from the position, which is the state with this number.
 fn try_lanes(
     alloc: Global,
     start: &Core,
     plan: &Plan,
     met: &mut Met,
     pairs: &mut Vec<Edge>,
-    place: &Place,
+    position: &Position,
     index: usize,
 ) -> Result<(), AllocError>
-    requires table { IsTable met.old.entries.items met.old.slots.items }
-    requires there { index < length met.old.entries.items }
-    requires wide { length place.now.places.items ≡ length plan.now }
-    ensures point { OnOk result (TriesAt plan.now (start_of plan.now start.now) met.old.entries.items met.new.entries.items
-        pairs.old.items pairs.new.items (point_of place.now) index (length plan.now)) }
-    ensures table { OnOk result (IsTable met.new.entries.items met.new.slots.items) }
-    ensures longer { OnOk result (length met.old.entries.items ≤ length met.new.entries.items) }
+    requires table { IsTable met.old.visits.items met.old.slots.items }
+    requires there { index < length met.old.visits.items }
+    requires wide { length position.now.places.items ≡ length plan.now }
+    ensures point { OnOk result (TriesAt plan.now (start_of plan.now start.now) met.old.visits.items met.new.visits.items
+        pairs.old.items pairs.new.items (point_of position.now) index (length plan.now)) }
+    ensures table { OnOk result (IsTable met.new.visits.items met.new.slots.items) }
+    ensures longer { OnOk result (length met.old.visits.items ≤ length met.new.visits.items) }
 {
     for lane in 0..plan.lanes() {
-        try_lane(alloc, start, plan, met, pairs, place, index, lane as u32)?;
+        try_lane(alloc, start, plan, met, pairs, position, index, lane as u32)?;
     }
     Ok(())
 }
@@ -158,20 +158,20 @@ fn look_at(
     counts: &mut Counts,
     index: usize,
 ) -> Result<(), AllocError>
-    requires table { IsTable met.old.entries.items met.old.slots.items }
-    requires there { index < length met.old.entries.items }
+    requires table { IsTable met.old.visits.items met.old.slots.items }
+    requires there { index < length met.old.visits.items }
     requires few { counts.old.hangs ≤ index }
-    ensures point { OnOk result (LooksOn plan.now start.now met.old.entries.items met.new.entries.items
+    ensures point { OnOk result (LooksOn plan.now start.now met.old.visits.items met.new.visits.items
         edges.old edges.new index counts.old counts.new) }
     ensures few { OnOk result (counts.new.hangs ≤ index + 1) }
-    ensures table { OnOk result (IsTable met.new.entries.items met.new.slots.items) }
-    ensures longer { OnOk result (length met.old.entries.items ≤ length met.new.entries.items) }
+    ensures table { OnOk result (IsTable met.new.visits.items met.new.slots.items) }
+    ensures longer { OnOk result (length met.old.visits.items ≤ length met.new.visits.items) }
 {
-    let place = again(alloc, start, plan, &met.entries, index)?;
-    place.core.stands();
-    let hung = hangs(alloc, plan, &place)?;
-    try_lanes(alloc, start, plan, met, &mut edges.pairs, &place, index)?;
-    note_waits(&mut edges.waits, edges.threads, &place)?;
+    let position = again(alloc, start, plan, &met.visits, index)?;
+    position.core.stands();
+    let hung = hangs(alloc, plan, &position)?;
+    try_lanes(alloc, start, plan, met, &mut edges.pairs, &position, index)?;
+    note_waits(&mut edges.waits, edges.threads, &position)?;
     counts.first = first_then(hung, index, counts.first);
     counts.hangs = one_more_if(hung, counts.hangs);
     Ok(())
@@ -180,83 +180,83 @@ fn look_at(
 /// Since when a wait was lost, where all states were looked at.
 fn loss_at(
     alloc: Global,
-    entries: &[Entry],
+    visits: &[Visit],
     edges: &Edges,
     looked: usize,
 ) -> Result<Option<Loss>, AllocError>
-    requires behind { AreBehind entries.now }
+    requires behind { AreBehind visits.now }
     ensures told { IfOk result (λ loss. (first : Option ℕ)
-        → OfSearch entries.now edges.now looked first (λ plan start. TellsLoss plan start loss)) }
+        → OfSearch visits.now edges.now looked first (λ plan start. TellsLoss plan start loss)) }
     ensures whole { IfOk result (λ loss. (h : ℕ)
-        → OfSearch entries.now edges.now looked (Some h) (λ plan start. length entries.now ≤ looked → IsSome loss)) }
+        → OfSearch visits.now edges.now looked (Some h) (λ plan start. length visits.now ≤ looked → IsSome loss)) }
 {
-    if looked < entries.len() {
+    if looked < visits.len() {
         return Ok(None);
     }
-    first_loss(alloc, entries, edges)
+    first_loss(alloc, visits, edges)
 }
 
 /// The verdict where this is the first state that hangs.
 fn judge_hang(
     alloc: Global,
-    entries: &[Entry],
+    visits: &[Visit],
     edges: &Edges,
     looked: usize,
     first: usize,
-) -> Result<Verdict, AllocError>
-    requires behind { AreBehind entries.now }
-    requires first { first < length entries.now }
+) -> Result<OrderVerdict, AllocError>
+    requires behind { AreBehind visits.now }
+    requires first { first < length visits.now }
     ensures told { IfOk result (λ verdict.
-        OfSearch entries.now edges.now looked (Some first) (λ plan start. TellsVerdict plan start verdict)) }
+        OfSearch visits.now edges.now looked (Some first) (λ plan start. TellsVerdict plan start verdict)) }
     ensures whole { IfOk result (λ verdict.
-        OfSearch entries.now edges.now looked (Some first) (λ plan start. length entries.now ≤ looked → HasLoss verdict)) }
-    ensures level { IfOk result (LiesAt entries.now looked (Some first)) }
+        OfSearch visits.now edges.now looked (Some first) (λ plan start. length visits.now ≤ looked → HasLoss verdict)) }
+    ensures level { IfOk result (LiesAt visits.now looked (Some first)) }
 {
-    let mut lanes = way_to(alloc, entries, first)?;
+    let mut lanes = way_to(alloc, visits, first)?;
     lanes.reverse();
-    let loss = loss_at(alloc, entries, edges, looked)?;
-    Ok(Verdict::Hangs { lanes, loss })
+    let loss = loss_at(alloc, visits, edges, looked)?;
+    Ok(OrderVerdict::Hangs { lanes, loss })
 }
 
 /// The verdict where none of those that were looked at hangs.
-fn judge_rest(alloc: Global, entries: &[Entry], looked: usize) -> Result<Verdict, AllocError>
-    requires behind { AreBehind entries.now }
+fn judge_rest(alloc: Global, visits: &[Visit], looked: usize) -> Result<OrderVerdict, AllocError>
+    requires behind { AreBehind visits.now }
     requires some { 0 < looked }
-    requires within { looked ≤ length entries.now }
+    requires within { looked ≤ length visits.now }
     ensures told { IfOk result (λ verdict. (edges : Edges)
-        → OfSearch entries.now edges looked None (λ plan start. TellsVerdict plan start verdict)) }
+        → OfSearch visits.now edges looked None (λ plan start. TellsVerdict plan start verdict)) }
     ensures whole { IfOk result HasLoss }
-    ensures level { IfOk result (LiesAt entries.now looked None) }
+    ensures level { IfOk result (LiesAt visits.now looked None) }
 {
-    if looked == entries.len() {
-        return Ok(Verdict::None);
+    if looked == visits.len() {
+        return Ok(OrderVerdict::None);
     }
-    let way = way_to(alloc, entries, looked)?;
+    let way = way_to(alloc, visits, looked)?;
     let level = way.len().saturating_sub(1);
-    Ok(Verdict::Met { level })
+    Ok(OrderVerdict::Met { level })
 }
 
 /// What the search has come to, after it looked at `looked` states.
 fn judge(
     alloc: Global,
-    entries: &[Entry],
+    visits: &[Visit],
     edges: &Edges,
     looked: usize,
     first: Option<usize>,
-) -> Result<Verdict, AllocError>
-    requires behind { AreBehind entries.now }
+) -> Result<OrderVerdict, AllocError>
+    requires behind { AreBehind visits.now }
     requires some { 0 < looked }
-    requires within { looked ≤ length entries.now }
+    requires within { looked ≤ length visits.now }
     requires first { ForSome first (λ h. h < looked) }
     ensures told { IfOk result (λ verdict.
-        OfSearch entries.now edges.now looked first (λ plan start. TellsVerdict plan start verdict)) }
+        OfSearch visits.now edges.now looked first (λ plan start. TellsVerdict plan start verdict)) }
     ensures whole { IfOk result (λ verdict.
-        OfSearch entries.now edges.now looked first (λ plan start. length entries.now ≤ looked → HasLoss verdict)) }
-    ensures level { IfOk result (LiesAt entries.now looked first) }
+        OfSearch visits.now edges.now looked first (λ plan start. length visits.now ≤ looked → HasLoss verdict)) }
+    ensures level { IfOk result (LiesAt visits.now looked first) }
 {
     match first {
-        Some(first) => judge_hang(alloc, entries, edges, looked, first),
-        None => judge_rest(alloc, entries, looked),
+        Some(first) => judge_hang(alloc, visits, edges, looked, first),
+        None => judge_rest(alloc, visits, looked),
     }
 }
 
@@ -281,7 +281,7 @@ pub fn explore<W: Watcher>(
     };
     let mut edges = no_edges(alloc, start.threads());
     let mut looked = 0;
-    while looked < met.entries.len() && (looked == 0 || met.entries.len() <= most) {
+    while looked < met.visits.len() && (looked == 0 || met.visits.len() <= most) {
         look_at(
             alloc,
             start,
@@ -292,11 +292,11 @@ pub fn explore<W: Watcher>(
             looked,
         )?;
         looked += 1;
-        watcher.tell(looked, met.entries.len());
+        watcher.tell(looked, met.visits.len());
     }
-    let verdict = judge(alloc, &met.entries, &edges, looked, counts.first)?;
+    let verdict = judge(alloc, &met.visits, &edges, looked, counts.first)?;
     Ok(Explored {
-        states: met.entries.len(),
+        states: met.visits.len(),
         steps: edges.pairs.len(),
         hangs: counts.hangs,
         verdict,

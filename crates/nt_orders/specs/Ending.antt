@@ -5,8 +5,8 @@ use Rattle.nt_devices.specs.Device.{Reading, Says, Writing, one_more}
 use Rattle.nt_calls.specs.State.{State}
 use Rattle.nt_explore.specs.Search.{TellsSearch, TellsVerdict, beginning}
 use Rattle.nt_explore.specs.declared.explored.Explored.{Explored}
-use Rattle.nt_explore.specs.declared.explored.Verdict.{Verdict}
-use Rattle.nt_explore.specs.declared.explored.Verdict.TheVariants as verdict
+use Rattle.nt_explore.specs.declared.explored.OrderVerdict.{OrderVerdict}
+use Rattle.nt_explore.specs.declared.explored.OrderVerdict.TheVariants as verdict
 use Rattle.nt_script.specs.Running.{Has}
 use Rattle.nt_script.specs.declared.fault.RunFault.TheVariants.{Script, Read, Write, Memory}
 use Rattle.nt_grammar.specs.declared.fault.ScriptFault.TheVariants.{ThreadsExpected}
@@ -19,13 +19,13 @@ use Rattle.nt_orders.specs.declared.report.Findings.{Findings}
 use Rattle.nt_orders.specs.declared.fault.OrdersFault.TheVariants as orders
 
 -- the exit status of a verdict
-abbrev pub verdict_code : Verdict → ℕ
+abbrev pub verdict_code : OrderVerdict → ℕ
 verdict_code (verdict.Hangs lanes loss) = 3
 verdict_code verdict.None = 0
 verdict_code (verdict.Met level) = 4
 
 -- the order of a verdict as a script, where one hangs: what stands in front of the lanes, and then the lines in that order
-abbrev pub order_of : Lanes → Verdict → Option (List ℕ)
+abbrev pub order_of : Lanes → OrderVerdict → Option (List ℕ)
 order_of lanes (verdict.Hangs order loss) = Some (order_text lanes.texts lanes.front order.items)
 order_of lanes verdict.None = None
 order_of lanes (verdict.Met level) = None

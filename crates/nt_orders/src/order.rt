@@ -6,7 +6,7 @@ ghost use Rattle.nt_orders.specs.Reading.{gone, lanes_of, texts_of};
 
 use crate::head::put_whole;
 use crate::lanes::{Line, Script};
-use nt_explore::Verdict;
+use nt_explore::OrderVerdict;
 use std::alloc::{AllocError, Global};
 
 /// The lane's line at this place, as it stands.
@@ -62,14 +62,14 @@ impl Script {
     pub(crate) fn order_of(
         &self,
         alloc: Global,
-        verdict: &Verdict,
+        verdict: &OrderVerdict,
     ) -> Result<Option<Vec<u8>>, AllocError>
         ensures { IfOk result (λ order.
             option_map (λ text. text.items) order ≡ order_of (lanes_of self.now) verdict.now) }
     {
         match verdict {
-            Verdict::Hangs { lanes, .. } => Ok(Some(self.in_order(alloc, lanes.as_slice())?)),
-            Verdict::None | Verdict::Met { .. } => Ok(None),
+            OrderVerdict::Hangs { lanes, .. } => Ok(Some(self.in_order(alloc, lanes.as_slice())?)),
+            OrderVerdict::None | OrderVerdict::Met { .. } => Ok(None),
         }
     }
 }

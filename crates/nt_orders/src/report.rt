@@ -10,7 +10,7 @@ use crate::hang::{held_at, put_hang};
 use crate::lanes::{Script, read_script};
 use crate::rows::put_rows;
 use nt_core::Core;
-use nt_explore::{Explored, Loss, Verdict, Watcher, explore};
+use nt_explore::{Explored, Loss, OrderVerdict, Watcher, explore};
 use nt_hangs::{Report, before_zero};
 use nt_look::is_stuck;
 use nt_wording::{put_number, put_thread_title, put_waiters};
@@ -176,15 +176,15 @@ impl Script {
         let mut text = Vec::new(alloc);
         put_counts(&mut text, file, explored)?;
         let code = match &explored.verdict {
-            Verdict::None => {
+            OrderVerdict::None => {
                 text.extend_from_slice(b"none hangs\n")?;
                 0
             }
-            Verdict::Met { level } => {
+            OrderVerdict::Met { level } => {
                 put_bound(&mut text, *level)?;
                 4
             }
-            Verdict::Hangs { lanes, loss } => {
+            OrderVerdict::Hangs { lanes, loss } => {
                 put_hangs(&mut text, explored.hangs, loss.is_some())?;
                 self.put_hanging(&mut text, alloc, told, lanes.as_slice(), loss)?;
                 3

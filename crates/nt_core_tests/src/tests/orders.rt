@@ -4,7 +4,7 @@ use crate::expect::expect;
 use crate::tests::memory::{CoreHost, tell_refusal};
 use nt_apc::Apc;
 use nt_core::{Act, Call, Core, WaitCall, WaitMode};
-use nt_explore::{Ask, Explored, Loss, Plan, Verdict, Watcher, explore};
+use nt_explore::{Ask, Explored, Loss, OrderVerdict, Plan, Watcher, explore};
 use nt_status::{Handle, Handles, INFINITE, Refusal};
 use std::alloc::Global;
 
@@ -196,13 +196,13 @@ fn is_loss(loss: &Option<Loss>, told: &Option<(&[u32], u32)>) -> bool {
     }
 }
 
-fn is_verdict(verdict: &Verdict, told: &Told) -> bool {
+fn is_verdict(verdict: &OrderVerdict, told: &Told) -> bool {
     match (verdict, told) {
-        (Verdict::Hangs { lanes, loss }, Told::Hangs(order, lost)) => {
+        (OrderVerdict::Hangs { lanes, loss }, Told::Hangs(order, lost)) => {
             lanes.as_slice() == *order && is_loss(loss, lost)
         }
-        (Verdict::None, Told::None) => true,
-        (Verdict::Met { level }, Told::Met(most)) => level == most,
+        (OrderVerdict::None, Told::None) => true,
+        (OrderVerdict::Met { level }, Told::Met(most)) => level == most,
         _ => false,
     }
 }

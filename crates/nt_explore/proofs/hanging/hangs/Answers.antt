@@ -11,23 +11,23 @@ pub returns-then-not-one_waits : goal.returns-then-not-one_waits
 returns-then-not-one_waits c = (
   λ e. absurd (false≢true e),
   λ h.
-      let w = someone_waits c.args.plan.now (point_at c.args.place.now.places.items c.args.place.now.core) h in
-      absurd (c.if-not-one_waits.ensures w.0 (waiting_known c.args.place.now.core c.stands.ensures w.0 w.1) w.1),
+      let w = someone_waits c.args.plan.now (point_at c.args.position.now.places.items c.args.position.now.core) h in
+      absurd (c.if-not-one_waits.ensures w.0 (waiting_known c.args.position.now.core c.stands.ensures w.0 w.1) w.1),
 )
 
 pub returns-then-is_stuck : goal.returns-then-is_stuck
 returns-then-is_stuck c =
-    let d = c.args.place.now.core in
-    let p = point_at c.args.place.now.places.items d in (
+    let d = c.args.position.now.core in
+    let p = point_at c.args.position.now.places.items d in (
       λ e. hangs_stuck d c.args.plan.now p c.deref.result.now refl (all_agree d.threads c.in_ok-over.over.items c.deref.result.now (goes_on c.args.plan.now p) c.deref.ensures.value c.in_ok-over.ensures.point) (c.is_stuck.ensures.0 c.if-is_stuck.true) c.if-not-one_waits.ensures.0 c.if-not-one_waits.ensures.1,
       λ h. refl,
     )
 
 pub returns : goal.returns
 returns c =
-    let d = c.args.place.now.core in
+    let d = c.args.position.now.core in
     let plan = c.args.plan.now in
-    let p = point_at c.args.place.now.places.items d in
+    let p = point_at c.args.position.now.places.items d in
     let over = c.deref-2.result.now in
     let knot = c.deref-3.result.now in
     let agree = all_agree d.threads c.in_ok-over.over.items over (goes_on plan p) c.deref-2.ensures.value c.in_ok-over.ensures.point in

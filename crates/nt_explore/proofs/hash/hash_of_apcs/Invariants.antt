@@ -5,7 +5,7 @@ use Rattle.nt_core.specs.Dispatcher.{state}
 use Rattle.nt_explore.specs.Hash.{folded, mixed_apc}
 use Rattle.nt_explore.proofs.hash.hash_of_apcs.Given as goal
 
-abbrev pub invariant-loop-place : goal.invariant-loop-place
-invariant-loop-place l =
+abbrev pub invariant-loop-position : goal.invariant-loop-position
+invariant-loop-position l =
     let queue = apc_queue_of (state l.core).apcs l.thread in
-    (l.so_far ≡ folded (λ h i. mixed_apc h (slice_get queue i)) l.hash l.place) × (l.place ≤ length queue)
+    (l.so_far ≡ folded (λ h i. mixed_apc h (slice_get queue i)) l.hash l.position) × (l.position ≤ length queue)

@@ -3,4 +3,4 @@ use Rattle.nt_explore.specs.Levels.{IsRow}
 use Rattle.nt_explore.proofs.loss.note_waits.Given as goal
 
 abbrev pub invariant-loop-thread : goal.invariant-loop-thread
-invariant-loop-thread l = IsRow l.initial.waits.items l.waits.items l.thread (state l.place.core)
+invariant-loop-thread l = IsRow l.initial.waits.items l.waits.items l.thread (state l.position.core)

@@ -12,12 +12,12 @@ loop-left-preserved c = (
   let inside = c.loop-left.invariant.0 in omega (arith, inside),
   c.in_ok-go_on.ensures.wide,
   c.go_on.ensures.threads ∙ c.loop-left.invariant.2,
-  far_back c.args.plan.now (beginning c.args.plan.now (state c.args.start.now)) c.args.way.now (point_at c.loop-left.place.places.items c.loop-left.place.core) (point_at c.go_on.new.place.places.items c.go_on.new.place.core) c.loop-left.left c.loop-left-test.true c.loop-left.invariant.0 c.in_ok-go_on.ensures.point c.loop-left.invariant.3,
+  far_back c.args.plan.now (beginning c.args.plan.now (state c.args.start.now)) c.args.way.now (point_at c.loop-left.position.places.items c.loop-left.position.core) (point_at c.go_on.new.position.places.items c.go_on.new.position.core) c.loop-left.left c.loop-left-test.true c.loop-left.invariant.0 c.in_ok-go_on.ensures.point c.loop-left.invariant.3,
 )
 
 pub returns-clause-point : goal.returns-clause-point
 returns-clause-point c =
     let start = beginning c.args.plan.now (state c.args.start.now) in
-    let here = point_at c.loop-left.place.places.items c.loop-left.place.core in
+    let here = point_at c.loop-left.position.places.items c.loop-left.position.core in
     let none : c.loop-left.left ≡ 0 = let past = c.loop-left-test.false in omega (arith, past) in
     far_end c.args.plan.now start here c.args.way.now (subst (λ (k : ℕ). (q : Point) → Arrives c.args.plan.now start c.args.way.now q → Arrives c.args.plan.now start (drop k c.args.way.now) here) none c.loop-left.invariant.3)

@@ -12,6 +12,6 @@ decreases-loop-left l = l.left
 abbrev pub invariant-loop-left : goal.invariant-loop-left
 invariant-loop-left l =
     (l.left ≤ length l.way)
-    × (length l.place.places.items ≡ length l.plan)
-    × ((state l.place.core).threads ≡ (state l.start).threads)
-    × ((q : Point) → Arrives l.plan (beginning l.plan (state l.start)) l.way q → Arrives l.plan (beginning l.plan (state l.start)) (drop l.left l.way) (point_at l.place.places.items l.place.core))
+    × (length l.position.places.items ≡ length l.plan)
+    × ((state l.position.core).threads ≡ (state l.start).threads)
+    × ((q : Point) → Arrives l.plan (beginning l.plan (state l.start)) l.way q → Arrives l.plan (beginning l.plan (state l.start)) (drop l.left l.way) (point_at l.position.places.items l.position.core))

@@ -5,4 +5,4 @@ use Rattle.nt_explore.proofs.Slots.{LooksPast}
 use Rattle.nt_explore.proofs.met.find.Given as goal
 
 abbrev pub invariant-loop-step : goal.invariant-loop-step
-invariant-loop-step l = LooksPast l.plan (beginning l.plan (state l.start)) l.entries l.slots l.hash (point_at l.place.places.items l.place.core) l.step
+invariant-loop-step l = LooksPast l.plan (beginning l.plan (state l.start)) l.visits l.slots l.hash (point_at l.position.places.items l.position.core) l.step

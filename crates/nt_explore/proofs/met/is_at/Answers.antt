@@ -4,7 +4,7 @@ use Rattle.nt_explore.proofs.met.is_at.Goals as goal
 
 pub returns-clause-found : goal.returns-clause-found
 returns-clause-found c = λ like. (
-  let past = c.if-index-entries.false in omega (arith, past),
+  let past = c.if-index-visits.false in omega (arith, past),
   λ point walk. sym (c.in_ok-other.ensures.point point walk) ∙ c.is_like.ensures.0 like,
 )
 

@@ -7,4 +7,4 @@ decreases-loop-at l = l.at
 
 abbrev pub invariant-loop-at : goal.invariant-loop-at
 invariant-loop-at l =
-    (l.at < length l.entries) × LeadsOn l.entries l.index l.at l.way.items × (l.at < l.index → 0 < length l.way.items)
+    (l.at < length l.visits) × LeadsOn l.visits l.index l.at l.way.items × (l.at < l.index → 0 < length l.way.items)

@@ -1,6 +1,6 @@
 use Rattle.std.proofs.Common.{◌≡◌, ◌<◌, ◌∙◌, ◌≤◌, ◌+◌, ℕ, arith, List, length, subst, sym, ap, refl, None, inl, inr, ◌⊎◌}
 use Rattle.nt_core.specs.Dispatcher.{state}
-use Rattle.nt_explore.specs.declared.met.Entry.{Entry}
+use Rattle.nt_explore.specs.declared.met.Visit.{Visit}
 use Rattle.nt_explore.specs.Search.{beginning, CanGo, CountsTo, SumsTo}
 use Rattle.nt_explore.specs.Levels.{IsSearch, IsCounted, LiesAt, then_met}
 use Rattle.nt_explore.proofs.Levels.{search_begins}
@@ -17,11 +17,11 @@ loop-looked-init g c =
     let edges = c.no_edges-edges.result in
     let first = c.in_ok-met.ensures.start in (
       omega arith,
-      let count = ap (λ (es : List Entry). length es) first in omega (arith, count),
+      let count = ap (λ (es : List Visit). length es) first in omega (arith, count),
       c.in_ok-met.ensures.table,
       omega arith,
       λ i. 1,
-      subst (λ (es : List Entry). IsCounted plan (beginning plan s) es edges 0 (record { hangs = 0; first = None }) (λ i. 1)) (sym first)
+      subst (λ (es : List Visit). IsCounted plan (beginning plan s) es edges 0 (record { hangs = 0; first = None }) (λ i. 1)) (sym first)
           (search_begins plan s edges (c.no_edges-edges.ensures.threads ∙ c.threads.ensures) c.no_edges-edges.ensures.pairs c.no_edges-edges.ensures.waits),
       (λ i below. absurd (omega (arith, below)), λ i some below. absurd (omega (arith, below))),
       refl,
@@ -30,7 +30,7 @@ loop-looked-init g c =
 pub loop-looked-preserved : goal.loop-looked-preserved
 loop-looked-preserved g c =
     let l = c.loop-looked in
-    let states = length c.look_at.new.met.entries.items in
+    let states = length c.look_at.new.met.visits.items in
     let longer = c.in_ok-look_at.ensures.longer in
     let some = l.invariant.1 in
     let met = l.invariant.4 in
@@ -58,12 +58,12 @@ loop-looked-preserved g c =
 pub returns-clause-told : goal.returns-clause-told
 returns-clause-told g c =
     let start = beginning c.args.plan.now (state c.args.start.now) in
-    c.in_ok-verdict.ensures.told c.args.plan.now (state c.args.start.now) (subst (λ (es : List Entry). IsSearch c.args.plan.now start es c.loop-looked.edges c.loop-looked.looked c.loop-looked.counts.first) (sym c.deref.ensures.value) c.loop-looked.invariant.5.0)
+    c.in_ok-verdict.ensures.told c.args.plan.now (state c.args.start.now) (subst (λ (es : List Visit). IsSearch c.args.plan.now start es c.loop-looked.edges c.loop-looked.looked c.loop-looked.counts.first) (sym c.deref.ensures.value) c.loop-looked.invariant.5.0)
 
 -- fewer states than the bound: the search ended since all were looked at
 all_looked : (g : given.Over) (c : goal.After-drop-met-3 g) → c.len-2.result ≤ c.args.most → length c.deref.result.now ≤ c.loop-looked.looked
 all_looked g c few =
-    let same = ap (λ (es : List Entry). length es) c.deref.ensures.value in
+    let same = ap (λ (es : List Visit). length es) c.deref.ensures.value in
     let count = c.len.ensures in
     let states = c.len-2.ensures in
     elim c.loop-looked-test.branch [
@@ -77,7 +77,7 @@ all_looked g c few =
 pub returns-clause-whole : goal.returns-clause-whole
 returns-clause-whole g c = λ few.
     let start = beginning c.args.plan.now (state c.args.start.now) in
-    c.in_ok-verdict.ensures.whole c.args.plan.now (state c.args.start.now) (subst (λ (es : List Entry). IsSearch c.args.plan.now start es c.loop-looked.edges c.loop-looked.looked c.loop-looked.counts.first) (sym c.deref.ensures.value) c.loop-looked.invariant.5.0) (all_looked g c few)
+    c.in_ok-verdict.ensures.whole c.args.plan.now (state c.args.start.now) (subst (λ (es : List Visit). IsSearch c.args.plan.now start es c.loop-looked.edges c.loop-looked.looked c.loop-looked.counts.first) (sym c.deref.ensures.value) c.loop-looked.invariant.5.0) (all_looked g c few)
 
 looked_some : (g : given.Over) (c : goal.After-drop-met-3 g) → 0 < c.loop-looked.looked
 looked_some g c =
@@ -92,7 +92,7 @@ looked_some g c =
     ]
 
 -- all were looked at, or the bound was met
-ended : (g : given.Over) (c : goal.After-drop-met-3 g) → (length c.loop-looked.met.entries.items ≡ c.loop-looked.looked) ⊎ (c.args.most < length c.loop-looked.met.entries.items)
+ended : (g : given.Over) (c : goal.After-drop-met-3 g) → (length c.loop-looked.met.visits.items ≡ c.loop-looked.looked) ⊎ (c.args.most < length c.loop-looked.met.visits.items)
 ended g c =
     let count = c.len.ensures in
     let within = c.loop-looked.invariant.0 in
@@ -111,7 +111,7 @@ returns-clause-searched g c =
     let s = state c.args.start.now in
     let met = l.invariant.4 in
     let so = l.invariant.5 in
-    let states : c.len-2.result ≡ length l.met.entries.items = let it = c.len-2.ensures in grind (arith, it) in
+    let states : c.len-2.result ≡ length l.met.visits.items = let it = c.len-2.ensures in grind (arith, it) in
     let steps : c.len-3.result ≡ length l.edges.pairs.items = let it = c.len-3.ensures in grind (arith, it) in
     let all = so.1.counts.of_states in
     let over : l.looked < c.len-2.result → c.args.most < c.len-2.result = λ left. elim (ended g c) [ inl whole ↦ absurd (omega (arith, whole, left, states)) | inr many ↦ omega (arith, many, states) ] in (
@@ -131,8 +131,8 @@ returns-clause-searched g c =
           of_steps = subst (λ (n : ℕ). SumsTo (λ i. CountsTo (CanGo plan (so.0.0 i)) (length plan)) l.looked n) (sym steps) so.1.counts.of_steps;
           of_hangs = so.1.counts.of_hangs;
         };
-        bound = tells_bound plan s l.met.entries.items c.args.most l.looked c.len-2.result l.counts.hangs l.counts.first so.0.0 c.in_ok-verdict.verdict so.0.1 so.1.counts.of_hangs states over
-            (subst (λ (es : List Entry). LiesAt es l.looked l.counts.first c.in_ok-verdict.verdict) c.deref.ensures.value c.in_ok-verdict.ensures.level);
+        bound = tells_bound plan s l.met.visits.items c.args.most l.looked c.len-2.result l.counts.hangs l.counts.first so.0.0 c.in_ok-verdict.verdict so.0.1 so.1.counts.of_hangs states over
+            (subst (λ (es : List Visit). LiesAt es l.looked l.counts.first c.in_ok-verdict.verdict) c.deref.ensures.value c.in_ok-verdict.ensures.level);
       },
       l.invariant.7,
     )

@@ -11,11 +11,11 @@ decreases-loop-looked g l = l.most + 1 - l.looked
 
 abbrev pub invariant-loop-looked : goal.invariant-loop-looked
 invariant-loop-looked g l =
-    (l.looked ≤ length l.met.entries.items)
-    × (0 < length l.met.entries.items)
-    × IsTable l.met.entries.items l.met.slots.items
+    (l.looked ≤ length l.met.visits.items)
+    × (0 < length l.met.visits.items)
+    × IsTable l.met.visits.items l.met.slots.items
     × (l.counts.hangs ≤ l.looked)
     × (met : ℕ → ℕ)
-    × IsCounted l.plan (beginning l.plan (state l.start)) l.met.entries.items l.edges l.looked l.counts met
+    × IsCounted l.plan (beginning l.plan (state l.start)) l.met.visits.items l.edges l.looked l.counts met
     × HasLeft l.most met l.looked
     × Learns g.W.Watcher.learns met l.looked l.initial.watcher l.watcher

@@ -5,7 +5,7 @@ use Rattle.nt_explore.proofs.search.judge_hang.Goals as goal
 
 pub returns-clause-told : goal.returns-clause-told
 returns-clause-told c = λ plan s search. (
-  hangs_there plan s c.args.entries.now c.args.edges.now c.args.looked c.args.first c.in_ok-lanes.lanes.items c.reverse.new.self.items c.reverse.ensures.items (λ point walk. c.in_ok-lanes.ensures.way plan (beginning plan s) point walk) search,
+  hangs_there plan s c.args.visits.now c.args.edges.now c.args.looked c.args.first c.in_ok-lanes.lanes.items c.reverse.new.self.items c.reverse.ensures.items (λ point walk. c.in_ok-lanes.ensures.way plan (beginning plan s) point walk) search,
   c.in_ok-loss.ensures.told (Some c.args.first) plan s search,
 )
 

@@ -1,7 +1,7 @@
 use Rattle.std.proofs.Common.{◌≡◌, ℕ, true, List, subst, sym, refl, arith}
 use Rattle.std.specs.Prelude.{◌↔◌}
 use Rattle.nt_core.specs.Dispatcher.{state}
-use Rattle.nt_explore.specs.declared.met.Entry.{Entry}
+use Rattle.nt_explore.specs.declared.met.Visit.{Visit}
 use Rattle.nt_explore.specs.Search.{beginning}
 use Rattle.nt_explore.specs.Walk.{point_at, IsWalk}
 use Rattle.nt_look.proofs.Searching.{for_good}
@@ -14,19 +14,19 @@ pub returns-clause-point : goal.returns-clause-point
 returns-clause-point c =
     let plan = c.args.plan.now in
     let start = beginning plan (state c.args.start.now) in
-    let old = c.args.met.now.entries.items in
-    let new = c.try_lanes.new.met.entries.items in
-    let p = point_at c.in_ok-place.place.places.items c.in_ok-place.place.core in
+    let old = c.args.met.now.visits.items in
+    let new = c.try_lanes.new.met.visits.items in
+    let p = point_at c.in_ok-position.position.places.items c.in_ok-position.position.core in
     let is : (point : ℕ → Point) → IsWalk plan start old point → p ≡ point c.args.index =
-    λ point walk. c.in_ok-place.ensures.point point (subst (λ (es : List Entry). IsWalk plan start es point) (sym c.deref.ensures.value) walk) in
+    λ point walk. c.in_ok-position.ensures.point point (subst (λ (es : List Visit). IsWalk plan start es point) (sym c.deref.ensures.value) walk) in
     λ met so.
     let next = search_more plan start old new c.args.edges.now (record { threads = c.args.edges.now.threads; pairs = c.try_lanes.new.pairs; waits = c.note_waits.new.waits }) c.args.index c.in_ok-hung.hung c.args.counts.now.first c.first_then-counts.result p c.requires.there refl
     is
     c.in_ok-hung.ensures
-    (λ e. let good = for_good c.in_ok-place.place.core plan p c.stands.ensures refl (c.in_ok-hung.ensures.0 e) in (good.0, good.1))
+    (λ e. let good = for_good c.in_ok-position.position.core plan p c.stands.ensures refl (c.in_ok-hung.ensures.0 e) in (good.0, good.1))
     c.in_ok-try_lanes.ensures.point
     c.in_ok-note_waits.ensures.row
-    (λ t waits. let below = c.note_waits.ensures.known t waits in let same = c.in_ok-place.ensures.threads in omega (arith, below, same))
+    (λ t waits. let below = c.note_waits.ensures.known t waits in let same = c.in_ok-position.ensures.threads in omega (arith, below, same))
     c.first_then-counts.ensures
     so.0 in
     let told = subst (λ (z : Point). c.in_ok-hung.hung ≡ true ↔ Hangs plan z) (is so.0.0 so.0.1.walk) c.in_ok-hung.ensures in (

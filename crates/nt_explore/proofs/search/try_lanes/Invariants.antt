@@ -8,6 +8,6 @@ use Rattle.nt_explore.proofs.search.try_lanes.Given as goal
 
 abbrev pub invariant-loop-lane : goal.invariant-loop-lane
 invariant-loop-lane l =
-    IsTable l.met.entries.items l.met.slots.items
-    × (length l.initial.met.entries.items ≤ length l.met.entries.items)
-    × ((point : ℕ → Point) → IsWalk l.plan (beginning l.plan (state l.start)) l.initial.met.entries.items point → point l.index ≡ point_at l.place.places.items l.place.core → Tries l.plan (beginning l.plan (state l.start)) l.initial.met.entries.items l.met.entries.items l.initial.pairs.items l.pairs.items (point_at l.place.places.items l.place.core) l.index l.lane point)
+    IsTable l.met.visits.items l.met.slots.items
+    × (length l.initial.met.visits.items ≤ length l.met.visits.items)
+    × ((point : ℕ → Point) → IsWalk l.plan (beginning l.plan (state l.start)) l.initial.met.visits.items point → point l.index ≡ point_at l.position.places.items l.position.core → Tries l.plan (beginning l.plan (state l.start)) l.initial.met.visits.items l.met.visits.items l.initial.pairs.items l.pairs.items (point_at l.position.places.items l.position.core) l.index l.lane point)
