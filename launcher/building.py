@@ -44,6 +44,7 @@ NTRUN, NTLOOK = Program("ntrun", ["script"]), Program("ntlook", ["why"])
 PROGRAMS = (NTRUN, NTLOOK)
 # The crate that is both, while it is built without proofs, and how what it writes of the script `threads 1` ends.
 BOTH, WROTE = "both", b"end: pending none\n"
+MAIN_OF_BOTH = f"{TOP}/launcher/both.rt"
 
 
 def judged_rt():
@@ -56,12 +57,12 @@ def judged_rt():
     return kit.find_rt()
 
 
-def is_current(made, parts, use=os.X_OK):
-    """Whether what was built is there, for this use, and neither a source nor the kit is newer."""
+def is_current(made, parts, use=os.X_OK, beside=()):
+    """Whether what was built is there, for this use, and neither a source, nor the kit, nor a file `beside` these is newer."""
     if not os.access(made, use):
         return False
     tools = os.path.dirname(os.path.dirname(os.path.realpath(kit.find_rt() or "/")))
-    sources = [f"{TOP}/crates.txt", f"{tools}/WHAT"]
+    sources = [f"{TOP}/crates.txt", f"{tools}/WHAT", *beside]
     for part in parts:
         for folder, _, names in (it for at in glob.glob(f"{TOP}/crates/*/{part}") for it in os.walk(at)):
             sources += [folder, *(f"{folder}/{name}" for name in names)]
@@ -199,7 +200,7 @@ def both_in(room):
     os.makedirs(f"{known[BOTH].folder}/src")
     # (`main` alone has the runtime with all its traits: so that of each program gives way to this crate's own.)
     texts = {it.name: text_of(f"{it.crate}/src/main.rt").partition("\nfn main(")[0].replace("\nfn start<", "\npub fn start<") for it in PROGRAMS}
-    for name, text in {"main": text_of(f"{TOP}/launcher/both.rt"), **texts}.items():
+    for name, text in {"main": text_of(MAIN_OF_BOTH), **texts}.items():
         with open(f"{known[BOTH].folder}/src/{name}.rt", "w", encoding="utf-8") as file:
             file.write(text)
     return known[BOTH].folder
@@ -250,7 +251,7 @@ def is_proved(built):
 
 def is_built(built):
     """Whether the program of these sources is there, proved or not."""
-    return is_proved(built) or is_current(built.unproved, ("src", "specs"))
+    return is_proved(built) or is_current(built.unproved, ("src", "specs"), beside=[MAIN_OF_BOTH])
 
 
 @functools.cache
