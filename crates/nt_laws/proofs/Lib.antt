@@ -21,3 +21,4 @@ mod OwingSince
 mod SettingSince
 mod Following
 mod RunsAsLives
+mod Combining

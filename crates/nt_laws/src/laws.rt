@@ -3,12 +3,14 @@ ghost use Rattle.nt_laws.specs.Laws.{ServesOneWay, RunsOneWay, SemaphoresGiveWha
 
 /// The order of grants leaves no choice: which waits a change ends, with which statuses, and the state after it are a
 /// function of the state and of the sequence of the waits on changed objects.
+#[tactic(auto, using(crate::proofs::Combining::serves_one_way))]
 pub fn serves_one_way()
     ensures { ServesOneWay }
 {}
 
 /// Runs leave no choice: every result, every grant and the state are a function of the calls and ticks in their order, and of
 /// which calls found no memory.
+#[tactic(auto, using(crate::proofs::RunsAsLives::runs_same))]
 pub fn runs_one_way()
     ensures { RunsOneWay }
 {}
@@ -20,18 +22,21 @@ pub fn semaphores_give_what_they_have()
 {}
 
 /// A mutex has one owner at most: after every run a thread holds it as deep as it owes releases of it, and no two threads owe one.
+#[tactic(auto, using(crate::proofs::Combining::one_owner))]
 pub fn one_owner()
     ensures { OneOwner }
 {}
 
 /// One set of an auto-reset event ends at most one wait: in any part of a run it is taken at most as often as it is set. A set
 /// that stands at the beginning counts.
+#[tactic(auto, using(crate::proofs::RunsAsLives::event_account))]
 pub fn one_set_one_wait()
     ensures { OneSetOneWait }
 {}
 
 /// A number is handed out once: over every part of a run it names the same object with the same rights, and nothing from its
 /// closing on.
+#[tactic(auto, using(crate::proofs::RunsAsLives::run_stays))]
 pub fn handles_stay()
     ensures { HandlesStay }
 {}
@@ -44,6 +49,7 @@ pub fn rights_never_grow()
 
 /// Over every run an object lives exactly while something keeps it: a handle names it, a pending wait names it, or it is a thread
 /// that runs.
+#[tactic(auto, using(crate::proofs::RunsAsLives::run_living))]
 pub fn objects_live_while_kept()
     ensures { LivesExactlyWhileKept }
 {}
