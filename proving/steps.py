@@ -137,10 +137,14 @@ def tell_rate(proofs, work, progress):
 BUILDS = (("./ntrun", "script", "examples/hand_over.nts"), ("./ntlook", "why", "examples/hand_over.nts"), ("c/kit/unproved",))
 
 
-def unproved_build(top, progress):
-    """Builds without proofs what is not there."""
-    with ThreadPoolExecutor() as pool:
-        built = zip(BUILDS, pool.map(lambda it: run(it, top), BUILDS))
+def begun_builds(top, pool):
+    """Begins to build without proofs what is not there. The steps that need none of it need not wait."""
+    return [(words, pool.submit(run, words, top)) for words in BUILDS]
+
+
+def unproved_build(begun, progress):
+    """Waits for what was begun."""
+    built = [(words, it.result()) for words, it in begun]
     failed = [(f"{words[0]}: status {said.status}", said.text.rstrip()) for words, said in built if said.status]
     for told in failed:
         progress.tell("\n".join(told))
@@ -230,9 +234,9 @@ def before_proofs(top):
     ]
 
 
-def unproved(top):
+def unproved(top, builds):
     return [
-        ("the unproved build", functools.partial(unproved_build, top), True),
+        ("the unproved build", functools.partial(unproved_build, builds), True),
         ("the examples", functools.partial(examples, top), False),
         ("the launcher, and the worked scripts", command(top, "tests/launcher"), False),
         ("random scripts and lives, a second way", command(top, "tests/compare"), False),
