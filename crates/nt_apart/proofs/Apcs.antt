@@ -7,8 +7,8 @@ use Rattle.std.proofs.lemmas.Bool.{cases_eq}
 use Rattle.std.proofs.lemmas.List.{get_or-set_other, set_comm}
 use Rattle.nt_status.specs.Status.{io_completion_code}
 use Rattle.nt_status.proofs.Lists.{contains_first, contains_later, contains_none, contains_cases}
-use Rattle.nt_core.proofs.Walks.{get_removed, get_other}
-use Rattle.nt_core.proofs.Accepting.{IsCalm}
+use Rattle.nt_machine.proofs.Walks.{get_removed, get_other}
+use Rattle.nt_machine.proofs.Accepting.{IsCalm}
 use Rattle.nt_waits.specs.declared.wait.Wait.{Wait}
 use Rattle.nt_apc.specs.declared.apc.Queued.{Queued}
 use Rattle.nt_apc.specs.Queues.{apc_queue_of, has_apc, pushed}

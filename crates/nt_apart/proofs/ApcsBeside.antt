@@ -6,8 +6,8 @@ use Rattle.std.specs.FinMap.{get, remove}
 use Rattle.std.proofs.Math.Path.{fun_ext}
 use Rattle.std.proofs.lemmas.List.{set_comm}
 use Rattle.nt_status.proofs.Lists.{contains_first, contains_later}
-use Rattle.nt_core.proofs.Walks.{get_removed, get_other}
-use Rattle.nt_core.proofs.Accepting.{IsCalm}
+use Rattle.nt_machine.proofs.Walks.{get_removed, get_other}
+use Rattle.nt_machine.proofs.Accepting.{IsCalm}
 use Rattle.nt_objects.specs.declared.object.Object.{Object}
 use Rattle.nt_waits.specs.declared.wait.Wait.{Wait}
 use Rattle.nt_waits.specs.Waits.{others}

@@ -5,7 +5,7 @@ use Rattle.std.specs.List.{list_any, list_all, find}
 use Rattle.std.specs.FinMap.{get}
 use Rattle.std.proofs.lemmas.List.{length-set}
 use Rattle.nt_status.proofs.Lists.{contains_first, contains_later}
-use Rattle.nt_core.proofs.Walks.{get_removed, get_other}
+use Rattle.nt_machine.proofs.Walks.{get_removed, get_other}
 use Rattle.nt_objects.specs.declared.object.Object.{Object}
 use Rattle.nt_objects.specs.Object.{taken}
 use Rattle.nt_waits.specs.declared.wait.Wait.{Wait}

@@ -1,8 +1,8 @@
 -- Steps that may both end waits, where no object is within reach of both.
 use Rattle.std.proofs.Common.{◌≡◌, inl, ℕ, zero, suc, true, false, List, [], ◌∷◌, ◌++◌, length, refl, sym, ap, ◌∙◌, subst, Some}
 use Rattle.std.specs.FinMap.{get}
-use Rattle.nt_core.proofs.Accepting.{Grants-calm}
-use Rattle.nt_core.proofs.Changing.{served_fewer}
+use Rattle.nt_machine.proofs.Accepting.{Grants-calm}
+use Rattle.nt_machine.proofs.Changing.{served_fewer}
 use Rattle.nt_objects.specs.declared.object.Object.{Object}
 use Rattle.nt_objects.specs.declared.object.Object.TheVariants.{Event, Semaphore, Mutex, Timer, Thread, Gone}
 use Rattle.nt_objects.specs.Object.{signaled, count_of, with_set, released, unlocked}

@@ -1,7 +1,7 @@
 -- A timer that is set for later or cancelled, and an act that may end waits, in either order.
 use Rattle.std.proofs.Common.{◌≡◌, inl, inr, ℕ, true, false, List, [], ◌∷◌, length, refl, sym, ap, ◌∙◌, subst}
 use Rattle.std.proofs.lemmas.List.{length-set, get_or-set_other}
-use Rattle.nt_core.proofs.Accepting.{IsCalm}
+use Rattle.nt_machine.proofs.Accepting.{IsCalm}
 use Rattle.nt_objects.specs.declared.object.Object.{Object}
 use Rattle.nt_objects.specs.declared.object.Object.TheVariants.{Thread}
 use Rattle.nt_apc.specs.declared.apc.Queued.{Queued}

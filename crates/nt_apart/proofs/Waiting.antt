@@ -7,7 +7,7 @@ use Rattle.std.specs.FinMap as map
 use Rattle.std.proofs.lemmas.Bool.{eqb-true}
 use Rattle.nt_status.proofs.Lists.{contains_none}
 use Rattle.nt_objects.proofs.Taking.{unsignaled_taken}
-use Rattle.nt_core.proofs.Changing.{served_fewer}
+use Rattle.nt_machine.proofs.Changing.{served_fewer}
 use Rattle.nt_core.proofs.Lengths.{length_taken}
 use Rattle.nt_objects.specs.declared.object.Object.{Object}
 use Rattle.nt_waits.specs.declared.wait.Wait.{Wait}

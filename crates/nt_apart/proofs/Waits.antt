@@ -10,8 +10,8 @@ use Rattle.std.proofs.lemmas.Bool.{eqb-true}
 use Rattle.std.proofs.lemmas.List.{set_comm}
 use Rattle.nt_status.proofs.Lists.{contains_first, contains_later, contains_none, contains_cases}
 use Rattle.nt_status.specs.Status.{io_completion_code}
-use Rattle.nt_core.proofs.Walks.{apart}
-use Rattle.nt_core.proofs.Listing.{same_no}
+use Rattle.nt_machine.proofs.Walks.{apart}
+use Rattle.nt_machine.proofs.Listing.{same_no}
 use Rattle.nt_objects.specs.declared.object.Object.{Object}
 use Rattle.nt_objects.specs.Object.{signaled, taken, is_abandoned}
 use Rattle.nt_waits.specs.declared.wait.Wait.{Wait}

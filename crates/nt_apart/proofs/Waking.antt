@@ -3,8 +3,8 @@ use Rattle.std.proofs.Common.{◌≡◌, ◌≢◌, ℕ, suc, ◌+◌, Bool, tru
 use Rattle.std.specs.Prelude.{slice_set, slice_index, ◌==◌, if◌then◌else◌}
 use Rattle.std.specs.List.{list_any, list_all, find, position_or_len}
 use Rattle.std.proofs.lemmas.List.{length-set, get_or-set_other}
-use Rattle.nt_core.proofs.Walks.{get_removed}
-use Rattle.nt_core.proofs.Accepting.{Grants-calm}
+use Rattle.nt_machine.proofs.Walks.{get_removed}
+use Rattle.nt_machine.proofs.Accepting.{Grants-calm}
 use Rattle.nt_core.proofs.Lengths.{Grants_length}
 use Rattle.nt_objects.specs.declared.object.Object.{Object}
 use Rattle.nt_objects.specs.declared.object.Object.TheVariants.{Thread}

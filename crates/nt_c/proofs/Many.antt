@@ -20,7 +20,7 @@ use Rattle.nt_calls.specs.Refusals.{Cause, IsRefusal, causes, first_of_causes, i
 use Rattle.nt_calls.specs.Rights.{is_denied}
 use Rattle.nt_calls.specs.State.{State}
 use Rattle.nt_calls.specs.Steps.{Called}
-use Rattle.nt_core.specs.Dispatcher.{state}
+use Rattle.nt_machine.specs.Dispatcher.{state}
 use Rattle.nt_sleepers.specs.Sleepers.{Sleeping}
 use Rattle.nt_c.specs.Asks.{Asked, MakesAndWakes}
 use Rattle.nt_c.proofs.Renewing.{wait_makes, wait_own, wait_limit}

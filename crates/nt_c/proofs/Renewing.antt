@@ -10,8 +10,8 @@ use Rattle.nt_calls.specs.declared.call.WaitCall.{WaitCall}
 use Rattle.nt_calls.specs.Moves.{pended}
 use Rattle.nt_calls.specs.State.{State}
 use Rattle.nt_calls.specs.Steps.{Called}
-use Rattle.nt_core.specs.Dispatcher.{state}
-use Rattle.nt_core.specs.Lawful.{IsLawful}
+use Rattle.nt_machine.specs.Dispatcher.{state}
+use Rattle.nt_machine.specs.Lawful.{IsLawful}
 use Rattle.nt_life.specs.Lasting.{Spares, FindsNoneFor, LooksAt, MakesCall}
 use Rattle.nt_life.proofs.Once.{unchanged_by, unnumbered_limit}
 use Rattle.nt_sleepers.specs.Sleepers.{Sleeping, Woke}

@@ -1,7 +1,7 @@
 -- What is asked about a thread that there is.
 use Rattle.std.proofs.Common.{◌≡◌, ℕ, Bool, false, Option, Some, sym, subst}
 use Rattle.std.specs.Prelude.{MatchBool, nat_le}
-use Rattle.nt_core.specs.Dispatcher.{state}
+use Rattle.nt_machine.specs.Dispatcher.{state}
 use Rattle.nt_sleepers.specs.Sleepers.{Sleeping}
 use Rattle.nt_c.specs.Sleeps.{AsksOfThread}
 

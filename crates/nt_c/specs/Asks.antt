@@ -19,9 +19,9 @@ use Rattle.nt_calls.specs.declared.call.Call.{Call}
 use Rattle.nt_calls.specs.declared.call.Grant.{Grant}
 use Rattle.nt_calls.specs.declared.call.Reply.{Reply}
 use Rattle.nt_calls.specs.declared.call.WaitCall.{WaitCall}
-use Rattle.nt_core.specs.Dispatcher.{Dispatcher, state}
-use Rattle.nt_core.specs.Lawful.{IsLawful}
-use Rattle.nt_core.specs.Accepts.{IsTickLocal}
+use Rattle.nt_machine.specs.Dispatcher.{Dispatcher, state}
+use Rattle.nt_machine.specs.Lawful.{IsLawful}
+use Rattle.nt_machine.specs.Accepts.{IsTickLocal}
 use Rattle.nt_calls.specs.State.{opening, pends}
 use Rattle.nt_calls.specs.Steps.{Ticked, IsNextMoment, NothingDue}
 use Rattle.nt_calls.specs.Moves.{pended}

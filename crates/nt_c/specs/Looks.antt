@@ -7,7 +7,7 @@ use Rattle.nt_objects.specs.declared.object.Object.TheVariants.{Event, Semaphore
 use Rattle.nt_objects.specs.declared.object.Armed.{Armed}
 use Rattle.nt_tables.specs.Handles.{opened_at}
 use Rattle.nt_calls.specs.Steps.{IsNextMoment, NothingDue}
-use Rattle.nt_core.specs.Dispatcher.{Dispatcher, state}
+use Rattle.nt_machine.specs.Dispatcher.{Dispatcher, state}
 use Rattle.nt_look.specs.Hangs.{unmarked, IsStuck, IsGreatestKnot}
 use Rattle.nt_c.specs.declared.handle.Nt.{Nt}
 use Rattle.nt_c.specs.declared.looks.NtObject.{NtObject}

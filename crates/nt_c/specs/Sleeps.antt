@@ -2,7 +2,7 @@
 use Rattle.std.specs.Prelude.{◌≡◌, ℕ, Bool, true, false, Option, Some, MatchOption, MatchBool, nat_le, slice_get}
 use Rattle.nt_c.specs.declared.numbers.TheConstants.{INVALID_HANDLE, NO_MORE, UNKNOWN_THREAD}
 use Rattle.nt_alarms.specs.Alarms.{alarm_at}
-use Rattle.nt_core.specs.Dispatcher.{state}
+use Rattle.nt_machine.specs.Dispatcher.{state}
 use Rattle.nt_sleepers.specs.Sleepers.{Sleeping, Watches, StopsSleeping, told_of}
 use Rattle.nt_sleepers.specs.declared.told.Told.{Told}
 use Rattle.nt_c.specs.declared.handle.Nt.{Nt}

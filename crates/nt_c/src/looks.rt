@@ -1,7 +1,7 @@
 //! What objects are and why threads wait, as C sees it. All of these are looks, and change nothing.
 ghost use Rattle.std.specs.Prelude.{◌≡◌, ◌↔◌, true, length, MatchBool, OnOk, OnErr};
 ghost use Rattle.nt_calls.specs.Steps.{IsNextMoment, NothingDue};
-ghost use Rattle.nt_core.specs.Dispatcher.{state};
+ghost use Rattle.nt_machine.specs.Dispatcher.{state};
 ghost use Rattle.nt_look.specs.Hangs.{unmarked, IsStuck};
 ghost use Rattle.nt_c.specs.Asks.{IsFit, Keeps};
 ghost use Rattle.nt_c.specs.Looks.{plain_object, owned_in, armed_in, object_for_c, IsWhy, ReadsNumbered, ReadsOpened, ReadsWhy};

@@ -1,6 +1,6 @@
 //! What C reads of a dispatcher, and the time that passes for it.
 ghost use Rattle.std.specs.FinMap as map;
-ghost use Rattle.nt_core.specs.Dispatcher.{state};
+ghost use Rattle.nt_machine.specs.Dispatcher.{state};
 ghost use Rattle.nt_c.specs.Asks.{IsFit, Keeps, Reads, ReadsDue, ReadsWaiting, Ticks};
 
 use crate::handle::Nt;

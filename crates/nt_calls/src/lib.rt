@@ -6,7 +6,7 @@
 //! `Run` a history of all that. That is what a reader has to believe.
 //!
 //! Beside these definitions stand the types of calls and answers, and what can be answered by looking at the objects alone: what a
-//! handle names, by which cause a call is refused, whether a wait is satisfied and what it then takes, when it comes due. `nt_core`
+//! handle names, by which cause a call is refused, whether a wait is satisfied and what it then takes, when it comes due. `nt_machine`
 //! keeps a machine that makes the calls.
 #![tactic(auto)]
 

@@ -14,21 +14,21 @@ use Rattle.nt_calls.specs.declared.call.Grant.{Grant}
 use Rattle.nt_calls.specs.declared.call.Reply.{Reply}
 use Rattle.nt_calls.specs.Rising.{IsRising, AreRising}
 use Rattle.nt_calls.specs.State.{State, Pending, object_at, waits_over}
-use Rattle.nt_core.specs.Dispatcher.{Dispatcher, state}
-use Rattle.nt_core.specs.Due.{is_up_to, due_weight, total_weight}
+use Rattle.nt_machine.specs.Dispatcher.{Dispatcher, state}
+use Rattle.nt_machine.specs.Due.{is_up_to, due_weight, total_weight}
 use Rattle.nt_calls.specs.Serving.{satisfied, sequence, IsServed, ending, late_status, sleeps}
 use Rattle.nt_calls.specs.Change.{all_expired}
 use Rattle.nt_calls.specs.Steps.{IsAwaited, IsNextMoment, NothingDue, MomentPasses, MomentsPass, Ticked}
 use Rattle.nt_calls.specs.Living.{Ends}
-use Rattle.nt_core.specs.Lawful.{IsMachineSound, IsSteady, IsUnmarked}
-use Rattle.nt_core.specs.Accepts.{IsFresh, IsPassedAfter, IsDueBy, is_by_objects, ended_by_objects, IsTickLocal}
-use Rattle.nt_core.proofs.Accepting.{IsCalm}
-use Rattle.nt_core.proofs.Alerting.{over_pending, over_objects}
-use Rattle.nt_core.proofs.Replacing.{queue_few}
-use Rattle.nt_core.proofs.Ticking.{Passed, Passed-then, Passed-end}
-use Rattle.nt_core.proofs.Marking.{marks_along}
+use Rattle.nt_machine.specs.Lawful.{IsMachineSound, IsSteady, IsUnmarked}
+use Rattle.nt_machine.specs.Accepts.{IsFresh, IsPassedAfter, IsDueBy, is_by_objects, ended_by_objects, IsTickLocal}
+use Rattle.nt_machine.proofs.Accepting.{IsCalm}
+use Rattle.nt_machine.proofs.Alerting.{over_pending, over_objects}
+use Rattle.nt_machine.proofs.Replacing.{queue_few}
+use Rattle.nt_machine.proofs.Ticking.{Passed, Passed-then, Passed-end}
+use Rattle.nt_machine.proofs.Marking.{marks_along}
 use Rattle.nt_core.proofs.Moments.{Grants_pending, Grants_len, over_len, Grants_queues, over_queues, queues_expired, waits_expired, due_weight_less, due_weight_bound, sequence_weight}
-use Rattle.nt_core.proofs.Rousing.{still_alerted}
+use Rattle.nt_machine.proofs.Rousing.{still_alerted}
 
 -- how many wait blocks stand in the queue of a handle
 abbrev pub blocks_in : State → ℕ → ℕ

@@ -21,7 +21,7 @@ use Rattle.nt_calls.specs.State.{State, Pending, wait_over, waits_over}
 use Rattle.nt_calls.specs.Serving.{fits, wait_granted, Grants, Alert, TimeOut}
 use Rattle.nt_calls.specs.Change.{change, may_take, expired, expired_as, all_expired}
 use Rattle.nt_calls.specs.Steps.{Called, Step, Ticked, MomentPasses, MomentsPass, after_serving, answered, begun, asked_wait}
-use Rattle.nt_core.proofs.Remaining.{ends_waits}
+use Rattle.nt_machine.proofs.Remaining.{ends_waits}
 
 len_removed : (m : Pending) (t : ℕ) (w : Wait) → map.get m t ≡ Some w → map.len (map.remove m t) + 1 ≡ map.len m
 len_removed m t w e =

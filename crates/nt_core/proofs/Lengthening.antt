@@ -12,14 +12,14 @@ use Rattle.nt_objects.specs.Object.{is_gone, has_ended}
 use Rattle.nt_apc.specs.Queues.{KeepsPlaces, place_of, is_queued}
 use Rattle.nt_calls.specs.State.{State, object_at}
 use Rattle.nt_calls.specs.Living.{is_opened, is_awaited, runs, is_kept, lives, LivesWhileKept}
-use Rattle.nt_core.specs.Dispatcher.{Dispatcher, state, with_object_added}
-use Rattle.nt_core.specs.Lawful.{IsMachineSound, IsSteady, HandlesAgree, MarksAgreeBut}
-use Rattle.nt_core.specs.Accepts.{IsFresh}
+use Rattle.nt_machine.specs.Dispatcher.{Dispatcher, state, with_object_added}
+use Rattle.nt_machine.specs.Lawful.{IsMachineSound, IsSteady, HandlesAgree, MarksAgreeBut}
+use Rattle.nt_machine.specs.Accepts.{IsFresh}
 use Rattle.nt_core.specs.Renewals.{AddsVacant, is_vacant}
-use Rattle.nt_core.proofs.Changing.{object_at-append, sound_longer, served_unchanged, due_kept}
-use Rattle.nt_core.proofs.Replacing.{created_only, due_created}
-use Rattle.nt_core.proofs.Marking.{mark_created}
-use Rattle.nt_core.proofs.Remaining.{and_not}
+use Rattle.nt_machine.proofs.Changing.{object_at-append, sound_longer, served_unchanged, due_kept}
+use Rattle.nt_machine.proofs.Replacing.{created_only, due_created}
+use Rattle.nt_machine.proofs.Marking.{mark_created}
+use Rattle.nt_machine.proofs.Remaining.{and_not}
 use Rattle.nt_core.proofs.Renewing.{never_forgotten, not_queued}
 
 -- ---- the objects

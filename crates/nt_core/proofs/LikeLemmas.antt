@@ -12,10 +12,10 @@ use Rattle.std.proofs.lemmas.Bool.Decides.{nat_tests}
 use Rattle.nt_waits.specs.declared.wait.Wait.{Wait}
 use Rattle.nt_waits.specs.Waits.{queue_of, next_after}
 use Rattle.nt_calls.specs.State.{State}
-use Rattle.nt_core.specs.Dispatcher.{Dispatcher, state}
-use Rattle.nt_core.specs.Lawful.{IsLawful}
+use Rattle.nt_machine.specs.Dispatcher.{Dispatcher, state}
+use Rattle.nt_machine.specs.Lawful.{IsLawful}
 use Rattle.nt_core.specs.Alike.{AreAlike}
-use Rattle.nt_core.proofs.Visiting.{state_same}
+use Rattle.nt_machine.proofs.Visiting.{state_same}
 
 contained : (q : List ℕ) (k x : ℕ) → slice_get q k ≡ Some x → Contains q x
 contained [] k x is = (cc)

@@ -14,22 +14,22 @@ use Rattle.nt_apc.specs.declared.apc.Queued.{Queued}
 use Rattle.nt_apc.specs.Queues.{has_apc}
 use Rattle.nt_calls.specs.declared.call.Grant.{Grant}
 use Rattle.nt_calls.specs.State.{State, object_at, waits_over, wait_over, Pending}
-use Rattle.nt_core.specs.Dispatcher.{Dispatcher, state, Marked, with_marked}
-use Rattle.nt_core.specs.Due.{is_up_to, due_weight, total_weight}
+use Rattle.nt_machine.specs.Dispatcher.{Dispatcher, state, Marked, with_marked}
+use Rattle.nt_machine.specs.Due.{is_up_to, due_weight, total_weight}
 use Rattle.nt_calls.specs.Serving.{wait_granted, sequence, IsServed, IsAlerted, Grants, IsLate}
 use Rattle.nt_calls.specs.Change.{expired_as, expired, all_expired}
 use Rattle.nt_calls.specs.Steps.{IsNextMoment}
-use Rattle.nt_core.specs.Visits.{FitOnlyIn, Visits}
-use Rattle.nt_core.specs.Lawful.{IsMachineSound, IsUnmarked}
-use Rattle.nt_core.specs.Accepts.{IsExpiredAfter, IsAlertedAfter, IsTimedOutAfter, IsPassedAfter}
-use Rattle.nt_core.proofs.Walks.{get_removed, served}
-use Rattle.nt_core.proofs.Visiting.{len_removed}
-use Rattle.nt_core.proofs.Changing.{fit_only_in}
-use Rattle.nt_core.proofs.Accepting.{due_taken_by}
-use Rattle.nt_core.proofs.Alerting.{over_pending, over_objects}
+use Rattle.nt_machine.specs.Visits.{FitOnlyIn, Visits}
+use Rattle.nt_machine.specs.Lawful.{IsMachineSound, IsUnmarked}
+use Rattle.nt_machine.specs.Accepts.{IsExpiredAfter, IsAlertedAfter, IsTimedOutAfter, IsPassedAfter}
+use Rattle.nt_machine.proofs.Walks.{get_removed, served}
+use Rattle.nt_machine.proofs.Visiting.{len_removed}
+use Rattle.nt_machine.proofs.Changing.{fit_only_in}
+use Rattle.nt_machine.proofs.Accepting.{due_taken_by}
+use Rattle.nt_machine.proofs.Alerting.{over_pending, over_objects}
 use Rattle.nt_core.proofs.Lengths.{Grants_length}
 use Rattle.nt_waits.specs.Deadlines.{NoneEarlier}
-use Rattle.nt_core.proofs.Ticking.{late_of}
+use Rattle.nt_machine.proofs.Ticking.{late_of}
 
 -- ---- what expiry and grants leave
 

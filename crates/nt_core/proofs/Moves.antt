@@ -21,7 +21,7 @@ use Rattle.nt_calls.specs.declared.call.Reply.{Reply}
 use Rattle.nt_calls.specs.Calls.{timeout_of}
 use Rattle.nt_calls.specs.Rising.{IsRising}
 use Rattle.nt_calls.specs.Rights.{is_denied}
-use Rattle.nt_core.proofs.Judging.{undenied}
+use Rattle.nt_machine.proofs.Judging.{undenied}
 use Rattle.nt_calls.specs.Refusals.{Cause, first_of_causes, refusal, call_causes}
 use Rattle.nt_status.specs.declared.refusal.Refusal.TheVariants.{UnknownThread, ThreadEnded, ThreadWaiting}
 use Rattle.nt_objects.specs.Object.{has_ended}
@@ -33,9 +33,9 @@ use Rattle.nt_calls.specs.Change.{change, act_reply, may_take, armed_anew, timer
 use Rattle.nt_calls.specs.Steps.{Called, Made, Step, Ticked, MomentPasses, MomentsPass, after_serving, answered, begun, asked_wait}
 use Rattle.nt_calls.specs.Living.{Ends}
 use Rattle.nt_calls.specs.Moves.{one_if, pended, is_wait, granted_to, Moves, IsMomentAfter}
-use Rattle.nt_core.proofs.Remaining.{same_threads, ends_waits}
-use Rattle.nt_core.proofs.Settling.{same_now}
-use Rattle.nt_core.proofs.Walks.{get_same, get_other}
+use Rattle.nt_machine.proofs.Remaining.{same_threads, ends_waits}
+use Rattle.nt_machine.proofs.Settling.{same_now}
+use Rattle.nt_machine.proofs.Walks.{get_same, get_other}
 
 granted_to-append : (t : ℕ) (xs ys : List Grant) → granted_to t (xs ++ ys) ≡ granted_to t xs + granted_to t ys
 granted_to-append t [] ys = omega arith

@@ -24,21 +24,21 @@ use Rattle.nt_calls.specs.Refusals.{Cause, first_of_causes, refusal}
 use Rattle.nt_calls.specs.Serving.{is_due, sequence}
 use Rattle.nt_calls.specs.State.{State, object_at}
 use Rattle.nt_calls.specs.Living.{is_opened, is_awaited, runs, is_kept, lives, is_forgotten, LivesWhileKept}
-use Rattle.nt_core.specs.Dispatcher.{Dispatcher, state}
-use Rattle.nt_core.specs.Lawful.{IsMachineSound, IsSteady, HandlesAgree}
+use Rattle.nt_machine.specs.Dispatcher.{Dispatcher, state}
+use Rattle.nt_machine.specs.Lawful.{IsMachineSound, IsSteady, HandlesAgree}
 use Rattle.nt_core.specs.Renewals.{with_again, is_closed, is_vacant, is_left, creation, created_by, or_else, with_caller, creation_refusal, thread_refusal, duplicate_refusal}
-use Rattle.nt_core.specs.Accepts.{IsFreeToCall}
-use Rattle.nt_core.proofs.Replacing.{mutex_undue, mutex_no_thread, mutex_lives}
-use Rattle.nt_core.proofs.Changing.{object_at-set_same, object_at-set_other, reading_set, property_set, fit_only_in, changed_at_one, due_kept, unset_undue}
-use Rattle.nt_core.proofs.Keeping.{no_thread_idle}
-use Rattle.nt_core.proofs.Lives.{not_gone, below_both, counted_opened}
-use Rattle.nt_core.proofs.Remaining.{both, turned}
+use Rattle.nt_machine.specs.Accepts.{IsFreeToCall}
+use Rattle.nt_machine.proofs.Replacing.{mutex_undue, mutex_no_thread, mutex_lives}
+use Rattle.nt_machine.proofs.Changing.{object_at-set_same, object_at-set_other, reading_set, property_set, fit_only_in, changed_at_one, due_kept, unset_undue}
+use Rattle.nt_machine.proofs.Keeping.{no_thread_idle}
+use Rattle.nt_machine.proofs.Lives.{not_gone, below_both, counted_opened}
+use Rattle.nt_machine.proofs.Remaining.{both, turned}
 use Rattle.std.specs.FinMap as fin
 use Rattle.nt_waits.specs.declared.wait.Wait.{Wait}
-use Rattle.nt_core.proofs.Standings.{standings_kept, standings_set, standing_free}
-use Rattle.nt_core.specs.declared.standing.Standing.TheVariants.{Free}
-use Rattle.nt_core.specs.declared.standing.Standing.{Standing}
-use Rattle.nt_core.specs.Lawful.{StandingsAgree}
+use Rattle.nt_machine.proofs.Standings.{standings_kept, standings_set, standing_free}
+use Rattle.nt_machine.specs.declared.standing.Standing.TheVariants.{Free}
+use Rattle.nt_machine.specs.declared.standing.Standing.{Standing}
+use Rattle.nt_machine.specs.Lawful.{StandingsAgree}
 
 -- ---- what an object that is gone is
 

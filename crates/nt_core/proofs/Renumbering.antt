@@ -7,10 +7,10 @@ use Rattle.std.proofs.lemmas.List.{length-map}
 use Rattle.nt_tables.specs.declared.handles.Opened.{Opened}
 use Rattle.nt_tables.specs.Handles.{opened_at, count_named}
 use Rattle.nt_calls.specs.Naming.{object_in}
-use Rattle.nt_core.specs.Lawful.{HandlesAgree}
+use Rattle.nt_machine.specs.Lawful.{HandlesAgree}
 use Rattle.nt_core.specs.SetAside.{named_instead}
-use Rattle.nt_core.proofs.Lives.{counted_opened}
-use Rattle.nt_core.proofs.Remaining.{some_handle}
+use Rattle.nt_machine.proofs.Lives.{counted_opened}
+use Rattle.nt_machine.proofs.Remaining.{some_handle}
 
 -- ---- one handle after another
 

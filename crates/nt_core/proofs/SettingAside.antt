@@ -16,17 +16,17 @@ use Rattle.nt_apc.specs.Queues.{has_apc, is_queued}
 use Rattle.nt_calls.specs.Serving.{is_due, sequence}
 use Rattle.nt_calls.specs.State.{State, object_at}
 use Rattle.nt_calls.specs.Living.{is_opened, is_awaited, runs, is_kept, lives, LivesWhileKept}
-use Rattle.nt_core.specs.Dispatcher.{Dispatcher, state}
-use Rattle.nt_core.specs.Lawful.{IsMachineSound, IsSteady}
+use Rattle.nt_machine.specs.Dispatcher.{Dispatcher, state}
+use Rattle.nt_machine.specs.Lawful.{IsMachineSound, IsSteady}
 use Rattle.nt_core.specs.Renewals.{is_vacant}
 use Rattle.nt_core.specs.SetAside.{is_movable, can_set_aside, with_aside}
-use Rattle.nt_core.proofs.Changing.{ChangedOnlyAt, object_at-set_same, object_at-set_other, reading_set, property_set, fit_only_in, due_kept}
-use Rattle.nt_core.proofs.Keeping.{timers_kept}
-use Rattle.nt_core.proofs.Lives.{below_both}
-use Rattle.nt_core.proofs.Remaining.{both, turned, and_not}
+use Rattle.nt_machine.proofs.Changing.{ChangedOnlyAt, object_at-set_same, object_at-set_other, reading_set, property_set, fit_only_in, due_kept}
+use Rattle.nt_machine.proofs.Keeping.{timers_kept}
+use Rattle.nt_machine.proofs.Lives.{below_both}
+use Rattle.nt_machine.proofs.Remaining.{both, turned, and_not}
 use Rattle.nt_core.proofs.Renewing.{never_forgotten}
 use Rattle.nt_core.proofs.Renumbering.{named_before, count_other, count_from, count_to, handles_instead}
-use Rattle.nt_core.proofs.Standings.{standings_kept}
+use Rattle.nt_machine.proofs.Standings.{standings_kept}
 
 -- the thread has ended and no wait names its object; what had the number o is gone
 pub record MayMove (s : State) (t o : ℕ) : Type 0 where

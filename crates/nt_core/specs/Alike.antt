@@ -1,7 +1,7 @@
 -- When the parts of two dispatchers that no reader tells are the same. No public clause cites this module.
 use Rattle.std.specs.Prelude.{◌≡◌, ◌<◌, ℕ, length}
 use Rattle.nt_waits.specs.Waits.{queue_of}
-use Rattle.nt_core.specs.Dispatcher.{Dispatcher}
+use Rattle.nt_machine.specs.Dispatcher.{Dispatcher}
 
 -- the same handles name the same, the same APCs are queued, the same threads may take theirs, and the same waits stand on each object, in the same order
 pub record AreAlike (d e : Dispatcher) : Type 0 where

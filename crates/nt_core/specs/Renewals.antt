@@ -17,8 +17,8 @@ use Rattle.nt_calls.specs.declared.call.Grant.{Grant}
 use Rattle.nt_calls.specs.Naming.{object_named, lacks}
 use Rattle.nt_calls.specs.State.{State, object_at}
 use Rattle.nt_calls.specs.Refusals.{Cause, first_of_causes, refusal}
-use Rattle.nt_core.specs.declared.standing.Standing.{Standing}
-use Rattle.nt_core.specs.Dispatcher.{Dispatcher}
+use Rattle.nt_machine.specs.declared.standing.Standing.{Standing}
+use Rattle.nt_machine.specs.Dispatcher.{Dispatcher}
 
 -- ---- which numbers may be given again
 

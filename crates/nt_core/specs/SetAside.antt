@@ -8,7 +8,7 @@ use Rattle.nt_apc.specs.Queues.{has_apc}
 use Rattle.nt_calls.specs.declared.call.Grant.{Grant}
 use Rattle.nt_calls.specs.Living.{is_awaited}
 use Rattle.nt_calls.specs.State.{State, object_at}
-use Rattle.nt_core.specs.Dispatcher.{Dispatcher}
+use Rattle.nt_machine.specs.Dispatcher.{Dispatcher}
 use Rattle.nt_core.specs.Renewals.{is_vacant}
 
 -- the thread has ended and its object lives; no pending wait names the object, and no APC is queued to the thread

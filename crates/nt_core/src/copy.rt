@@ -2,8 +2,8 @@
 ghost use Rattle.std.specs.Prelude.{◌≡◌, ◌≤◌, IfOk, IfErr, vec_capacity};
 ghost use Rattle.nt_status.specs.declared.refusal.Refusal.TheVariants.{Memory};
 
-use crate::machine::Machine;
 use nt_calls::Grant;
+use nt_machine::Machine;
 use nt_status::Refusal;
 use std::alloc::{AllocError, Global};
 
@@ -17,37 +17,37 @@ fn copy_grants(alloc: Global, threads: usize, grants: &[Grant]) -> Result<Vec<Gr
     Ok(copied)
 }
 
-impl Machine {
-    /// An equal machine in memory of its own.
-    pub fn copy(&self) -> Result<Machine, Refusal>
-        ensures value { IfOk result (λ copied. copied ≡ self.now) }
-        ensures memory { IfErr result (λ refusal. refusal ≡ Memory) }
-    {
-        let alloc = *self.grants.allocator();
-        let apcs = self.apcs.copy()?;
-        let handles = self.handles.copy()?;
-        let handing = Vec::from_slice(alloc, &self.handing)?;
-        let standings = Vec::from_slice(alloc, &self.standings)?;
-        let failed = Vec::from_slice(alloc, &self.failed)?;
-        let grants = copy_grants(alloc, self.threads as usize, &self.grants)?;
-        let objects = self.objects.copy()?;
-        let alerted = self.alerted.copy()?;
-        let (alarms, leaving, changed) = self.alarms.copy_with(&self.leaving, &self.changed)?;
-        Ok(Machine {
-            threads: self.threads,
-            handles,
-            objects,
-            waits: self.waits.copy()?,
-            apcs,
-            handing,
-            standings,
-            failed,
-            moment: self.moment,
-            grants,
-            alarms,
-            leaving,
-            changed,
-            alerted,
-        })
-    }
+/// An equal machine in memory of its own.
+pub(crate) fn copy(machine: &Machine) -> Result<Machine, Refusal>
+    ensures value { IfOk result (λ copied. copied ≡ machine.now) }
+    ensures memory { IfErr result (λ refusal. refusal ≡ Memory) }
+{
+    let alloc = *machine.grants.allocator();
+    let apcs = machine.apcs.copy()?;
+    let handles = machine.handles.copy()?;
+    let handing = Vec::from_slice(alloc, &machine.handing)?;
+    let standings = Vec::from_slice(alloc, &machine.standings)?;
+    let failed = Vec::from_slice(alloc, &machine.failed)?;
+    let grants = copy_grants(alloc, machine.threads as usize, &machine.grants)?;
+    let objects = machine.objects.copy()?;
+    let alerted = machine.alerted.copy()?;
+    let (alarms, leaving, changed) = machine
+        .alarms
+        .copy_with(&machine.leaving, &machine.changed)?;
+    Ok(Machine {
+        threads: machine.threads,
+        handles,
+        objects,
+        waits: machine.waits.copy()?,
+        apcs,
+        handing,
+        standings,
+        failed,
+        moment: machine.moment,
+        grants,
+        alarms,
+        leaving,
+        changed,
+        alerted,
+    })
 }

@@ -6,14 +6,16 @@ ghost use Rattle.nt_calls.specs.State.{opening, pends};
 ghost use Rattle.nt_calls.specs.Naming.{call_named};
 ghost use Rattle.nt_calls.specs.Steps.{Called, Ticked};
 ghost use Rattle.nt_calls.specs.declared.call.WaitCall.{WaitCall};
-ghost use Rattle.nt_core.specs.Dispatcher.{state};
+ghost use Rattle.nt_machine.specs.Dispatcher.{state};
 ghost use Rattle.nt_calls.specs.Living.{living};
-ghost use Rattle.nt_core.specs.Lawful.{IsLawful};
-ghost use Rattle.nt_core.specs.Accepts.{IsLocal, IsTickLocal};
+ghost use Rattle.nt_machine.specs.Lawful.{IsLawful};
+ghost use Rattle.nt_machine.specs.Accepts.{IsLocal, IsTickLocal};
 ghost use Rattle.nt_calls.specs.Moves.{Moves, IsMomentAfter, pended, is_wait};
 
-use crate::machine::Machine;
+use crate::copy::copy;
+use crate::ticks::tick;
 use nt_calls::{Call, Grant, Reply, WaitMode, count_living};
+use nt_machine::Machine;
 use nt_status::{Handle, MAX_MANY_THREADS, MAX_THREADS, Moment, Refusal};
 use nt_waits::Reader;
 use std::alloc::Global;
@@ -40,8 +42,8 @@ impl Model for Core {
     ghost use Rattle.std.specs.Coded.{codes};
     ghost use Rattle.nt_status.specs.declared.limits.TheConstants.{MAX_MANY_THREADS, MAX_THREADS};
     ghost use Rattle.nt_waits.specs.Waits.{waits_code};
-    ghost use Rattle.nt_core.specs.Dispatcher.{Dispatcher};
-    ghost use Rattle.nt_core.specs.Lawful.{IsLawful};
+    ghost use Rattle.nt_machine.specs.Dispatcher.{Dispatcher};
+    ghost use Rattle.nt_machine.specs.Lawful.{IsLawful};
 
     ghost Value = { Dispatcher };
 
@@ -160,7 +162,7 @@ impl Core {
         ensures moment { IsMomentAfter (state self.old).now m result (state self.new).now }
         ensures untested { OnErr result (self.new.table.looked ≡ 0) }
     {
-        let result = self.machine.tick(m);
+        let result = tick(&mut self.machine, m);
         let machine = &self.machine;
         machine.objects.agree();
         result
@@ -216,7 +218,7 @@ impl Core {
         ensures value { IfOk result (λ copied. copied ≡ self.now) }
         ensures memory { IfErr result (λ refusal. refusal ≡ Memory) }
     {
-        let machine = self.machine.copy()?;
+        let machine = copy(&self.machine)?;
         let reader = self.reader;
         Ok(Core { machine, reader })
     }

@@ -4,10 +4,10 @@ ghost use Rattle.nt_status.specs.declared.limits.TheConstants.{MAX_HANDLES};
 ghost use Rattle.nt_core.specs.Alike.{AreAlike};
 ghost use Rattle.std.specs.FinMap as map;
 ghost use Rattle.nt_waits.specs.Waits.{queue_of};
-ghost use Rattle.nt_core.specs.Dispatcher.{state};
+ghost use Rattle.nt_machine.specs.Dispatcher.{state};
 
 use crate::dispatcher::Core;
-use crate::machine::Machine;
+use nt_machine::Machine;
 use nt_objects::Object;
 use nt_status::ObjectNumber;
 use nt_waits::{Wait, WaitTable};

@@ -3,7 +3,7 @@ ghost use Rattle.std.specs.Prelude.{◌≡◌, length, slice_get, slice_index_or
 ghost use Rattle.std.specs.List.{Contains};
 ghost use Rattle.nt_waits.specs.Waits.{next_after};
 ghost use Rattle.nt_apc.specs.Queues.{apc_queue_of};
-ghost use Rattle.nt_core.specs.Dispatcher.{state};
+ghost use Rattle.nt_machine.specs.Dispatcher.{state};
 
 use crate::dispatcher::Core;
 use nt_apc::Queued;

@@ -2,8 +2,8 @@
 ghost use Rattle.std.specs.Prelude.{◌≡◌, ◌<◌, ℕ, true, MatchOption, slice_get};
 ghost use Rattle.std.specs.Option.{option_copied};
 ghost use Rattle.std.specs.FinMap as map;
-ghost use Rattle.nt_core.specs.Dispatcher.{state};
-ghost use Rattle.nt_core.specs.Lawful.{IsLawful};
+ghost use Rattle.nt_machine.specs.Dispatcher.{state};
+ghost use Rattle.nt_machine.specs.Lawful.{IsLawful};
 ghost use Rattle.nt_calls.specs.Naming.{object_named};
 ghost use Rattle.nt_calls.specs.State.{object_at};
 ghost use Rattle.nt_objects.specs.Object.{owned_by};
@@ -11,6 +11,7 @@ ghost use Rattle.nt_tables.specs.Handles.{opened_at, count_named};
 ghost use Rattle.nt_calls.specs.Steps.{IsNextMoment, NothingDue};
 
 use crate::dispatcher::Core;
+use crate::ticks::next_moment;
 use nt_calls::{named, object_named};
 use nt_objects::Object;
 use nt_status::{Handle, Moment, ObjectNumber, ThreadId};
@@ -87,7 +88,7 @@ impl Core {
         ensures { MatchOption result (NothingDue (state self.now) up_to)
             (λ moment. IsNextMoment (state self.now) up_to moment) }
     {
-        let moment = self.machine.next_moment(up_to)?;
+        let moment = next_moment(&self.machine, up_to)?;
         Moment::new(moment)
     }
 }

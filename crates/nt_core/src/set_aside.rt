@@ -5,12 +5,13 @@ ghost use Rattle.nt_tables.specs.Handles.{opened_at};
 ghost use Rattle.nt_objects.specs.Object.{owned_by};
 ghost use Rattle.nt_calls.specs.Living.{LivesWhileKept};
 ghost use Rattle.nt_calls.specs.State.{object_at};
-ghost use Rattle.nt_core.specs.Dispatcher.{state};
-ghost use Rattle.nt_core.specs.Lawful.{IsMachineSound, IsSteady, IsLawful};
+ghost use Rattle.nt_machine.specs.Dispatcher.{state};
+ghost use Rattle.nt_machine.specs.Lawful.{IsMachineSound, IsSteady, IsLawful};
 ghost use Rattle.nt_core.specs.SetAside.{is_movable, can_set_aside, named_instead, SetsAside, with_aside};
 
 use crate::dispatcher::Core;
-use crate::machine::Machine;
+use crate::renewals::is_vacant;
+use nt_machine::Machine;
 use nt_objects::Object;
 use nt_status::{Handle, ObjectNumber, ThreadId};
 use nt_tables::{HandleTable, Opened};
@@ -45,62 +46,60 @@ fn rename_all(handles: &mut HandleTable, from: ObjectNumber, to: ObjectNumber)
     }
 }
 
-impl Machine {
-    /// Whether the thread has ended and its object can have another number.
-    fn is_movable(&self, thread: u32) -> bool
-        requires sound { IsMachineSound self.now }
-        ensures { result ≡ is_movable (state self.now) thread }
-    {
-        if thread >= self.threads {
-            return false;
-        }
-        let Some(own) = self.objects.as_slice().get(thread as usize) else {
-            return false;
-        };
-        let awaited = self.waits.is_awaited(ObjectNumber::new(thread));
-        let quiet = self.apcs.is_empty(ThreadId::new(thread as u16));
-        own.has_ended() && (!own.is_gone() && (!awaited && quiet))
+/// Whether the thread has ended and its object can have another number.
+fn is_movable(machine: &Machine, thread: u32) -> bool
+    requires sound { IsMachineSound machine.now }
+    ensures { result ≡ is_movable (state machine.now) thread }
+{
+    if thread >= machine.threads {
+        return false;
     }
+    let Some(own) = machine.objects.as_slice().get(thread as usize) else {
+        return false;
+    };
+    let awaited = machine.waits.is_awaited(ObjectNumber::new(thread));
+    let quiet = machine.apcs.is_empty(ThreadId::new(thread as u16));
+    own.has_ended() && (!own.is_gone() && (!awaited && quiet))
+}
 
-    /// Whether the thread's object can have this number.
-    fn can_set_aside(&self, thread: u32, object: ObjectNumber) -> bool
-        requires sound { IsMachineSound self.now }
-        ensures { result ≡ can_set_aside (state self.now) thread object }
-    {
-        self.is_movable(thread) && self.is_vacant(object)
-    }
+/// Whether the thread's object can have this number.
+fn can_set_aside(machine: &Machine, thread: u32, object: ObjectNumber) -> bool
+    requires sound { IsMachineSound machine.now }
+    ensures { result ≡ can_set_aside (state machine.now) thread object }
+{
+    is_movable(machine, thread) && is_vacant(machine, object)
+}
 
-    /// Gives an object the number of one that is gone, and takes its own from it. Neither is a mutex that a thread owns.
-    fn renumber(&mut self, from: ObjectNumber, to: ObjectNumber)
-        requires from { from < length self.old.objects }
-        requires to { to < length self.old.objects }
-        requires enough { length self.old.objects ≤ length self.old.handles }
-        requires few { length self.old.handles < 2 ^ 32 - 1 }
-        requires owner { (t : ℕ) → owned_by (object_at self.old.objects from) t ≡ false }
-        ensures { self.new ≡ with_aside self.old from to self.new.owned }
-    {
-        rename_all(&mut self.handles, from, to);
-        let object = self.objects.as_slice()[from.get() as usize];
-        self.objects.put(to, object);
-        self.objects.put(from, Object::Gone);
-    }
+/// Gives an object the number of one that is gone, and takes its own from it. Neither is a mutex that a thread owns.
+fn renumber(machine: &mut Machine, from: ObjectNumber, to: ObjectNumber)
+    requires from { from < length machine.old.objects }
+    requires to { to < length machine.old.objects }
+    requires enough { length machine.old.objects ≤ length machine.old.handles }
+    requires few { length machine.old.handles < 2 ^ 32 - 1 }
+    requires owner { (t : ℕ) → owned_by (object_at machine.old.objects from) t ≡ false }
+    ensures { machine.new ≡ with_aside machine.old from to machine.new.owned }
+{
+    rename_all(&mut machine.handles, from, to);
+    let object = machine.objects.as_slice()[from.get() as usize];
+    machine.objects.put(to, object);
+    machine.objects.put(from, Object::Gone);
+}
 
-    /// Sets the thread's object aside, at the number of one that is gone. It answers whether that was done.
-    pub fn set_aside(&mut self, thread: u32, object: ObjectNumber) -> bool
-        requires steady { IsSteady self.old }
-        requires living { LivesWhileKept (state self.old) }
-        ensures aside { SetsAside (state self.old) thread object result self.new.grants (state self.new) }
-        ensures untested { self.new.table.looked ≡ 0 }
-        ensures steady { IsSteady self.new }
-        ensures living { LivesWhileKept (state self.new) }
-    {
-        self.tell_anew();
-        if !self.can_set_aside(thread, object) {
-            return false;
-        }
-        self.renumber(ObjectNumber::new(thread), object);
-        true
+/// Sets the thread's object aside, at the number of one that is gone. It answers whether that was done.
+pub(crate) fn set_aside(machine: &mut Machine, thread: u32, object: ObjectNumber) -> bool
+    requires steady { IsSteady machine.old }
+    requires living { LivesWhileKept (state machine.old) }
+    ensures aside { SetsAside (state machine.old) thread object result machine.new.grants (state machine.new) }
+    ensures untested { machine.new.table.looked ≡ 0 }
+    ensures steady { IsSteady machine.new }
+    ensures living { LivesWhileKept (state machine.new) }
+{
+    machine.tell_anew();
+    if !can_set_aside(machine, thread, object) {
+        return false;
     }
+    renumber(machine, ObjectNumber::new(thread), object);
+    true
 }
 
 impl Core {
@@ -109,7 +108,7 @@ impl Core {
     pub fn is_movable(&self, thread: u32) -> bool
         ensures { result ≡ is_movable (state self.now) thread }
     {
-        self.machine.is_movable(thread)
+        is_movable(&self.machine, thread)
     }
 
     /// Sets aside the object of a thread that has ended and that handles still name: it gets the number of an object that is gone, by which
@@ -123,7 +122,7 @@ impl Core {
         ensures untested { self.new.table.looked ≡ 0 }
         ensures lawful { IsLawful self.new }
     {
-        let done = self.machine.set_aside(thread, object);
+        let done = set_aside(&mut self.machine, thread, object);
         let machine = &self.machine;
         machine.objects.agree();
         done

@@ -7,9 +7,9 @@ use Rattle.nt_calls.specs.declared.call.Reply.{Reply}
 use Rattle.nt_calls.specs.Naming.{call_named}
 use Rattle.nt_calls.specs.Steps.{Called, Ticked}
 use Rattle.nt_calls.specs.Moves.{Moves, IsMomentAfter, pended}
-use Rattle.nt_core.specs.Dispatcher.{Dispatcher, state}
-use Rattle.nt_core.specs.Lawful.{IsLawful}
-use Rattle.nt_core.specs.Accepts.{IsLocal, IsTickLocal}
+use Rattle.nt_machine.specs.Dispatcher.{Dispatcher, state}
+use Rattle.nt_machine.specs.Lawful.{IsLawful}
+use Rattle.nt_machine.specs.Accepts.{IsLocal, IsTickLocal}
 
 -- the thread's call was made, or refused, with this result: each clause of `Core::call`, but that only a wait pends, which the answers' types say
 pub record IsCalled (old : Dispatcher) (who : ℕ) (call : Call) (result : Result Reply Refusal) (new : Dispatcher) : Type 0 where

@@ -3,7 +3,7 @@ ghost use Rattle.std.specs.Prelude.{◌≡◌, false, true, [], ◌∷◌};
 ghost use Rattle.nt_calls.specs.declared.call.Act.{Act};
 ghost use Rattle.nt_calls.specs.declared.call.Call.{Call};
 ghost use Rattle.nt_calls.specs.declared.call.WaitCall.{WaitCall};
-ghost use Rattle.nt_core.specs.Dispatcher.{Dispatcher};
+ghost use Rattle.nt_machine.specs.Dispatcher.{Dispatcher};
 ghost use Rattle.nt_answers.specs.Answers.{done_reply, created_reply, previous_reply, apc_reply, began_reply};
 ghost use Rattle.nt_core_calls.specs.Called.{IsCalled, IsTicked};
 

@@ -14,8 +14,8 @@ use Rattle.nt_waits.specs.Waits.{Names}
 use Rattle.nt_calls.specs.State.{State, object_at, pends}
 use Rattle.nt_status.specs.Access.{modify_state}
 use Rattle.nt_calls.specs.Living.{runs}
-use Rattle.nt_core.specs.Dispatcher.{Dispatcher, state}
-use Rattle.nt_core.specs.Lawful.{IsLawful}
+use Rattle.nt_machine.specs.Dispatcher.{Dispatcher, state}
+use Rattle.nt_machine.specs.Lawful.{IsLawful}
 use Rattle.nt_look.specs.Hangs.{is_given, holds, held_at, is_held, IsTied, IsKnot, IsStuck, IsGreatestKnot, marked, unmarked}
 use Rattle.nt_look.specs.Orders.{Plan, Point, Hangs, goes_on}
 

@@ -1,7 +1,7 @@
 -- How far a search is. No public clause cites this module.
 use Rattle.std.specs.Prelude.{Contains, [], ◌∷◌, ◌*◌, if◌then◌else◌, slice_set, nat_lt, ◌≡◌, ◌<◌, ◌≤◌, ◌+◌, ℕ, Bool, true, false, List, length, Option, None, Some}
 use Rattle.nt_calls.specs.State.{State, pends}
-use Rattle.nt_core.specs.Dispatcher.{Dispatcher}
+use Rattle.nt_machine.specs.Dispatcher.{Dispatcher}
 use Rattle.nt_look.specs.Hangs.{marked}
 use Rattle.nt_look.specs.Orders.{Plan, Point, Goes, Hangs, IsLost, steps}
 use Rattle.nt_explore.specs.declared.loss.Edge.{Edge}

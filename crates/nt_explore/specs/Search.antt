@@ -1,7 +1,7 @@
 -- What a search of all orders tells.
 use Rattle.std.specs.Prelude.{◌≡◌, ◌≢◌, ◌<◌, ◌≤◌, ◌⊎◌, ◌+◌, ℕ, zero, suc, List, length, replicate, Option, Some, None, IsSome}
 use Rattle.nt_calls.specs.State.{State}
-use Rattle.nt_core.specs.Dispatcher.{Dispatcher, state}
+use Rattle.nt_machine.specs.Dispatcher.{Dispatcher, state}
 use Rattle.nt_look.specs.Orders as orders
 use Rattle.nt_look.specs.Orders.{Calls, Passes, Plan, Point, Goes, Hangs, Order, NoneHangs, NoneHangsWithin, IsShortestHang, IsShortestLoss}
 use Rattle.nt_explore.specs.declared.plan.Ask.{Ask}

@@ -1,7 +1,7 @@
 -- How the states that a search met lie in its table. No public clause cites this module.
 use Rattle.std.specs.Prelude.{Contains, ◌⊎◌, true, false, Option, None, Some, ◌≡◌, ◌≢◌, ◌<◌, ◌≤◌, ◌+◌, ℕ, Bool, List, [], ◌∷◌, length, slice_index_or}
 use Rattle.nt_calls.specs.State.{State, pends}
-use Rattle.nt_core.specs.Dispatcher.{Dispatcher, state}
+use Rattle.nt_machine.specs.Dispatcher.{Dispatcher, state}
 use Rattle.nt_look.specs.Hangs.{marked}
 use Rattle.nt_look.specs.Orders.{Plan, Point, Goes, steps}
 use Rattle.nt_explore.specs.Search.{AreDistinct, CanGo, CountsTo, IsOneIf}

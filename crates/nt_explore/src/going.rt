@@ -1,7 +1,7 @@
 //! One lane goes.
 ghost use Rattle.std.specs.Prelude.{◌≡◌, ◌≢◌, ◌<◌, length, Err, MatchBool, IfOk, OnOk, not, ◌&&◌, is_some, slice_get, slice_index_or};
 ghost use Rattle.nt_status.specs.declared.refusal.Refusal.TheVariants.{Memory};
-ghost use Rattle.nt_core.specs.Dispatcher.{state};
+ghost use Rattle.nt_machine.specs.Dispatcher.{state};
 ghost use Rattle.nt_calls.specs.State.{pends};
 ghost use Rattle.nt_look.specs.Orders.{Calls, Passes, IsAskMade, asks};
 ghost use Rattle.nt_explore.specs.Search.{asked};

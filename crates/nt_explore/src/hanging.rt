@@ -1,7 +1,7 @@
 //! Whether a wait pends that nothing can end.
 ghost use Rattle.std.specs.Prelude.{◌≡◌, ◌↔◌, ◌<◌, ℕ, true, not, MatchBool, length, slice_index_or, nat_lt, IfOk};
 ghost use Rattle.nt_calls.specs.State.{pends};
-ghost use Rattle.nt_core.specs.Dispatcher.{state};
+ghost use Rattle.nt_machine.specs.Dispatcher.{state};
 ghost use Rattle.nt_look.specs.Hangs.{marked};
 ghost use Rattle.nt_look.specs.Orders.{Hangs, asks, goes_on};
 ghost use Rattle.nt_explore.specs.Walk.{point_of, WaitsAmong, NoneWaitsAmong};

@@ -2,7 +2,7 @@
 //! number cost the search one of them made again, so it sees all in which states differ.
 ghost use Rattle.std.specs.Prelude.{◌≡◌, Some, slice_get};
 ghost use Rattle.std.specs.FinMap as map;
-ghost use Rattle.nt_core.specs.Dispatcher.{state};
+ghost use Rattle.nt_machine.specs.Dispatcher.{state};
 ghost use Rattle.nt_apc.specs.Queues.{apc_queue_of};
 ghost use Rattle.nt_tables.specs.Handles.{opened_at};
 ghost use Rattle.nt_explore.specs.Hash.{mixed, mixed_long, low_half, mixed_flag, mixed_moment, mixed_thread, due_of, mixed_object, mixed_object_at, mixed_queue, mixed_apc, mixed_apcs, mixed_wait, mixed_handle, mixed_one_thread, mixed_one_object, mixed_places, mixed_threads, mixed_objects, mixed_handles, hash_of};

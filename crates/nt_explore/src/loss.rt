@@ -1,7 +1,7 @@
 //! Since when a wait was lost: it pends, and in every order of what is left it pends on.
 ghost use Rattle.std.specs.Prelude.{◌≡◌, ◌<◌, ◌≤◌, ◌*◌, List, ◌++◌, ◌∷◌, [], ℕ, true, false, Option, Some, IsSome, length, slice_set, IfOk, OnOk};
 ghost use Rattle.nt_calls.specs.State.{pends};
-ghost use Rattle.nt_core.specs.Dispatcher.{state};
+ghost use Rattle.nt_machine.specs.Dispatcher.{state};
 ghost use Rattle.nt_look.specs.Hangs.{marked};
 ghost use Rattle.nt_explore.specs.Search.{TellsLoss};
 ghost use Rattle.nt_explore.specs.Walk.{edge, AreBehind};

@@ -1,6 +1,6 @@
 //! The states that were met.
 ghost use Rattle.std.specs.Prelude.{◌≡◌, ◌<◌, ◌≤◌, ◌+◌, ◌^◌, ◌++◌, ◌∷◌, [], ℕ, true, false, Some, length, replicate, IfOk, OnOk, OnErr};
-ghost use Rattle.nt_core.specs.Dispatcher.{state};
+ghost use Rattle.nt_machine.specs.Dispatcher.{state};
 ghost use Rattle.nt_look.specs.Orders.{Point};
 ghost use Rattle.nt_explore.specs.Hash.{hash_of};
 ghost use Rattle.nt_explore.specs.Search.{start_of};

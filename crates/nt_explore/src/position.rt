@@ -1,6 +1,6 @@
 //! How far each lane is, and the dispatcher.
 ghost use Rattle.std.specs.Prelude.{◌≡◌, ◌↔◌, true, length, IfOk};
-ghost use Rattle.nt_core.specs.Dispatcher.{state};
+ghost use Rattle.nt_machine.specs.Dispatcher.{state};
 ghost use Rattle.nt_explore.specs.Search.{start_of};
 ghost use Rattle.nt_explore.specs.Walk.{point_at, point_of};
 

@@ -18,8 +18,8 @@ use Rattle.std.specs.Ordering.{nat_cmp}
 use Rattle.nt_waits.specs.declared.wait.Wait.{Wait}
 use Rattle.nt_calls.specs.State.{State, pends, opening}
 use Rattle.nt_calls.specs.Runs.{Turn, Calls, Ticks, IsTurn}
-use Rattle.nt_core.specs.Dispatcher.{Dispatcher, state}
-use Rattle.nt_core.specs.Lawful.{IsLawful}
+use Rattle.nt_machine.specs.Dispatcher.{Dispatcher, state}
+use Rattle.nt_machine.specs.Lawful.{IsLawful}
 use Rattle.nt_core.specs.Renewals.{BeginsAgain}
 use Rattle.nt_life.specs.declared.renewal.Renewal.TheVariants.{Begin}
 use Rattle.nt_mail.specs.declared.word.TheConstants.{ENTRY_LIMIT}

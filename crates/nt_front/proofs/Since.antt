@@ -1,6 +1,6 @@
 -- What a thread knows of all entries, those among them that were handed out.
 use Rattle.std.proofs.Common.{◌≡◌, ◌+◌, ℕ, Bool, true, false, List, [], ◌∷◌, ◌++◌, length, refl, ◌∙◌, ap, sym, subst, arith}
-use Rattle.nt_core.specs.Dispatcher.{Dispatcher, state}
+use Rattle.nt_machine.specs.Dispatcher.{Dispatcher, state}
 use Rattle.nt_calls.specs.Runs.{Turn, Calls, Ticks, Turns}
 use Rattle.nt_calls.specs.State.{State, opening}
 use Rattle.nt_mail.specs.declared.entry.Entry.{Entry}
@@ -15,7 +15,7 @@ use Rattle.nt_front.specs.Names.{Prepared}
 use Rattle.nt_front.specs.Runs.{journal_of, IsHistoryFrom, IsLawfulHistory, IsLawfulRun, LeadTo}
 use Rattle.nt_mail.specs.Journals.{Deed, Deeds, written, is_renewal}
 use Rattle.nt_mail.proofs.Lives.{life_is_run}
-use Rattle.nt_core.specs.Lawful.{IsLawful}
+use Rattle.nt_machine.specs.Lawful.{IsLawful}
 use Rattle.std.specs.List.{list_any}
 use Rattle.nt_front.proofs.Passed.{floor_passed}
 

@@ -12,10 +12,10 @@ use Rattle.nt_calls.specs.Naming.{call_named}
 use Rattle.nt_calls.specs.Rights.{is_denied}
 use Rattle.nt_calls.specs.Refusals.{refusal}
 use Rattle.nt_core.specs.Renewals.{or_else, creation_refusal, is_left, CreatesAgain, BeginsAgain}
-use Rattle.nt_core.specs.Dispatcher.{state}
-use Rattle.nt_core.specs.Lawful.{IsLawful}
-use Rattle.nt_core.proofs.Accepting.{free_caller}
-use Rattle.nt_core.proofs.Judging.{undenied}
+use Rattle.nt_machine.specs.Dispatcher.{state}
+use Rattle.nt_machine.specs.Lawful.{IsLawful}
+use Rattle.nt_machine.proofs.Accepting.{free_caller}
+use Rattle.nt_machine.proofs.Judging.{undenied}
 use Rattle.nt_answers.specs.Answers.{is_done, is_handle, created_reply as reply_of}
 use Rattle.nt_answers.specs.Kinds.{Kind, act_kind, kind_of, tells_kind, is_answer}
 use Rattle.nt_answers.proofs.Telling.{call_told}

@@ -2,8 +2,8 @@
 ghost use Rattle.std.specs.Prelude.{◌≡◌, ◌+◌, ◌≤◌, ◌&&◌, [], vec_len, vec_capacity, IfOk, IfErr, MatchBool, is_some, true, false, nat_le};
 ghost use Rattle.nt_status.specs.declared.refusal.Refusal.TheVariants.{InvalidParameter, Memory};
 ghost use Rattle.nt_calls.specs.State.{opening};
-ghost use Rattle.nt_core.specs.Dispatcher.{state};
-ghost use Rattle.nt_core.specs.Lawful.{IsLawful};
+ghost use Rattle.nt_machine.specs.Dispatcher.{state};
+ghost use Rattle.nt_machine.specs.Lawful.{IsLawful};
 ghost use Rattle.nt_mail.specs.Knowledge.{newcomers};
 ghost use Rattle.nt_front.specs.Books.{is_lawful_front};
 ghost use Rattle.nt_front.specs.Holds.{new_threads};

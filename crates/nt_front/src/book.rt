@@ -3,8 +3,8 @@ ghost use Rattle.std.specs.Prelude.{◌≡◌, ◌+◌, ◌-◌, ◌<◌, ◌≤
 ghost use Rattle.std.specs.FinMap as map;
 ghost use Rattle.nt_status.specs.declared.refusal.Refusal.TheVariants.{JournalFull, Memory};
 ghost use Rattle.nt_calls.specs.State.{opening, pends};
-ghost use Rattle.nt_core.specs.Dispatcher.{state};
-ghost use Rattle.nt_core.specs.Lawful.{IsLawful};
+ghost use Rattle.nt_machine.specs.Dispatcher.{state};
+ghost use Rattle.nt_machine.specs.Lawful.{IsLawful};
 ghost use Rattle.nt_calls.specs.Moves.{pended, is_wait};
 ghost use Rattle.nt_answers.specs.Answers.{is_done};
 ghost use Rattle.nt_answers.specs.Kinds.{is_answer};

@@ -7,7 +7,7 @@ use Rattle.std.specs.declared.alloc.AllocError.{AllocError}
 use Rattle.nt_devices.specs.Device.{AppendsPart, Says, Writing, one_more}
 use Rattle.nt_status.specs.declared.limits.TheConstants.{MAX_MOMENT}
 use Rattle.nt_calls.specs.Steps.{IsNextMoment, NothingDue}
-use Rattle.nt_core.specs.Dispatcher.{Dispatcher, state}
+use Rattle.nt_machine.specs.Dispatcher.{Dispatcher, state}
 use Rattle.nt_look.specs.Hangs.{unmarked, IsStuck}
 use Rattle.nt_hangs.specs.Absent.{AreAbsent, AreHeld}
 use Rattle.nt_script.specs.Progress.{Progress, progress}

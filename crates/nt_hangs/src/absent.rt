@@ -4,7 +4,7 @@ ghost use Rattle.nt_status.specs.declared.limits.TheConstants.{MAX_MOMENT, MAX_T
 ghost use Rattle.nt_lines.specs.Lines.{lines_of};
 ghost use Rattle.nt_calls.specs.State.{pends};
 ghost use Rattle.nt_calls.specs.Steps.{IsNextMoment, NothingDue};
-ghost use Rattle.nt_core.specs.Dispatcher.{state};
+ghost use Rattle.nt_machine.specs.Dispatcher.{state};
 ghost use Rattle.nt_look.specs.Hangs.{marked, unmarked, IsStuck};
 ghost use Rattle.nt_hangs.specs.Absent.{caller_in, is_call_of, AreAbsent, AreHeld};
 

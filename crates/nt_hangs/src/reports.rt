@@ -1,7 +1,7 @@
 //! The report of a script that was run up to a line.
 ghost use Rattle.std.specs.Prelude.{◌≡◌, ◌++◌, OnOk, IfOk, codes, decimal};
 ghost use Rattle.nt_lines.specs.Lines.{lines_of};
-ghost use Rattle.nt_core.specs.Dispatcher.{state};
+ghost use Rattle.nt_machine.specs.Dispatcher.{state};
 ghost use Rattle.nt_script.specs.Progress.{progress};
 ghost use Rattle.nt_status.specs.declared.limits.TheConstants.{MAX_MOMENT};
 ghost use Rattle.nt_hangs.specs.Reports.{head_text, place_text, report_text, IsReport, Reports, ReportsOf, ReportsSeen, FindsSeen};

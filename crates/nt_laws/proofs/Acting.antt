@@ -18,10 +18,10 @@ use Rattle.nt_calls.specs.State.{State, object_at, with_object, with_handing}
 use Rattle.nt_calls.specs.Change.{created, signal, change, act_change, may_take, expired, expired_as, armed_anew, timer_set, timer_cancelled, due_moment, routine_for, exited}
 use Rattle.nt_calls.specs.Refusals.{Cause, first_of_causes, refusal, is_no, is_unknown, is_foreign, is_at_limit, may_signal}
 use Rattle.nt_calls.specs.Steps.{after_serving}
-use Rattle.nt_core.proofs.Changing.{object_at-set_other}
-use Rattle.nt_core.proofs.Accepting.{next_causes, own_causes}
-use Rattle.nt_core.proofs.Listing.{same_yes, same_no}
-use Rattle.nt_core.proofs.Exiting.{left}
+use Rattle.nt_machine.proofs.Changing.{object_at-set_other}
+use Rattle.nt_machine.proofs.Accepting.{next_causes, own_causes}
+use Rattle.nt_machine.proofs.Listing.{same_yes, same_no}
+use Rattle.nt_machine.proofs.Exiting.{left}
 
 -- ---- one object among those that a call changes
 

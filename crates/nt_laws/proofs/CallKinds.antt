@@ -25,9 +25,9 @@ use Rattle.nt_calls.specs.Rights.{is_denied}
 use Rattle.nt_calls.specs.Refusals.{Cause, first_of_causes, call_causes, refusal, is_full, is_unknown}
 use Rattle.nt_calls.specs.Change.{handle_closed, notified, expired_as, apc_taken, created, opened_too, signal, change, may_take, expired, armed_anew, timer_set, due_moment, routine_for, exited}
 use Rattle.nt_laws.specs.Laws.{call_closes}
-use Rattle.nt_core.proofs.Accepting.{next_causes, free_caller}
-use Rattle.nt_core.proofs.Lives.{not_gone}
-use Rattle.nt_core.proofs.Judging.{undenied}
+use Rattle.nt_machine.proofs.Accepting.{next_causes, free_caller}
+use Rattle.nt_machine.proofs.Lives.{not_gone}
+use Rattle.nt_machine.proofs.Judging.{undenied}
 use Rattle.nt_laws.proofs.Lasting.{SameLife, life_set, KeepsLife, life_changed, life_same, life_then, set_life, armed_life, rearmed_life}
 
 -- ---- the kinds of changes

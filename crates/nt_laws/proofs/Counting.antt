@@ -13,8 +13,8 @@ use Rattle.nt_calls.specs.declared.call.Grant.{Grant}
 use Rattle.nt_calls.specs.State.{State, opening, object_at}
 use Rattle.nt_core.specs.Renewals.{creation, created_by, CreatesAgain, BeginsAgain}
 use Rattle.nt_core.specs.SetAside.{SetsAside, set_aside}
-use Rattle.nt_core.proofs.Accepting.{object_at-replicate}
-use Rattle.nt_core.proofs.Changing.{object_at-set_same, object_at-set_other, known_object}
+use Rattle.nt_machine.proofs.Accepting.{object_at-replicate}
+use Rattle.nt_machine.proofs.Changing.{object_at-set_same, object_at-set_other, known_object}
 use Rattle.nt_core.proofs.SettingAside.{may_move}
 use Rattle.nt_laws.specs.Lives.{Stage, Takes, Creates, Shares, Begins, Adds, Renumbers, IsStage, Stages, Life, gives_object}
 use Rattle.nt_laws.specs.Since.{LastPart, since_given}

@@ -13,11 +13,11 @@ use Rattle.nt_calls.specs.State.{State, object_at}
 use Rattle.nt_calls.specs.Living.{is_kept, lives, LivesWhileKept}
 use Rattle.nt_core.specs.Renewals.{opened_again, created_again}
 use Rattle.nt_core.specs.SetAside.{named_instead, set_aside}
-use Rattle.nt_core.proofs.Changing.{object_at-set_same, object_at-set_other}
-use Rattle.nt_core.proofs.Remaining.{both, turned}
+use Rattle.nt_machine.proofs.Changing.{object_at-set_same, object_at-set_other}
+use Rattle.nt_machine.proofs.Remaining.{both, turned}
 use Rattle.nt_core.proofs.Renumbering.{opened_instead, named_before}
 use Rattle.nt_core.proofs.SettingAside.{MayMove}
-use Rattle.nt_core.proofs.Settling.{queue_there}
+use Rattle.nt_machine.proofs.Settling.{queue_there}
 use Rattle.nt_laws.specs.Laws.{HasHandle, IsKept}
 use Rattle.nt_laws.proofs.Keepers.{kept_by, is_kept_by, kept_lives}
 use Rattle.nt_laws.proofs.Numbers.{opened_given}

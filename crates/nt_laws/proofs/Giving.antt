@@ -17,13 +17,13 @@ use Rattle.nt_calls.specs.Naming.{call_named}
 use Rattle.nt_calls.specs.State.{State, object_at}
 use Rattle.nt_calls.specs.Change.{change, signal}
 use Rattle.nt_calls.specs.Rights.{is_denied}
-use Rattle.nt_core.proofs.Judging.{undenied}
+use Rattle.nt_machine.proofs.Judging.{undenied}
 use Rattle.nt_calls.specs.Refusals.{refusal, may_signal, is_full, is_no}
 use Rattle.nt_calls.specs.Runs.{Turn, Calls, Ticks, IsTurn}
 use Rattle.nt_laws.specs.Takes.{turn_took, takers}
 use Rattle.nt_laws.specs.Laws.{act_gives, call_gives, turn_gives}
-use Rattle.nt_core.proofs.Accepting.{next_causes, own_causes}
-use Rattle.nt_core.proofs.Exiting.{left}
+use Rattle.nt_machine.proofs.Accepting.{next_causes, own_causes}
+use Rattle.nt_machine.proofs.Exiting.{left}
 use Rattle.nt_laws.proofs.Takes.{TakenBy, AreFair}
 use Rattle.nt_laws.proofs.Acting.{swap_judged, is_plain, past_last, acted, changed_at, settled_at}
 use Rattle.nt_laws.proofs.Turns.{in_call, in_tick}

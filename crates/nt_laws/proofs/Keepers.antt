@@ -31,14 +31,14 @@ use Rattle.nt_calls.specs.Refusals.{Cause, refusal, has_twice, is_unknown, is_no
 use Rattle.nt_calls.specs.Change.{change}
 use Rattle.nt_calls.specs.Steps.{Made, asked_wait}
 use Rattle.nt_calls.specs.Runs.{Turn, Calls, Ticks, IsTurn}
-use Rattle.nt_core.proofs.Accepting.{next_causes, free_caller, nothing_pends, object_at-replicate}
-use Rattle.nt_core.proofs.Judging.{undenied}
+use Rattle.nt_machine.proofs.Accepting.{next_causes, free_caller, nothing_pends, object_at-replicate}
+use Rattle.nt_machine.proofs.Judging.{undenied}
 use Rattle.nt_laws.proofs.Lasting.{step_lasts, moments_last}
 use Rattle.nt_laws.proofs.CallKinds.{call_causes_none, change_kind}
 use Rattle.nt_laws.proofs.Numbers.{opened_more, opening_enough}
-use Rattle.nt_core.proofs.Remaining.{both, turned, same_handles, same_queues, same_threads, same_waits, same_count, some_handle, some_member, ends_living}
-use Rattle.nt_core.proofs.Lives.{one_of, not_gone, counted_opened}
-use Rattle.nt_core.proofs.Settling.{queue_there}
+use Rattle.nt_machine.proofs.Remaining.{both, turned, same_handles, same_queues, same_threads, same_waits, same_count, some_handle, some_member, ends_living}
+use Rattle.nt_machine.proofs.Lives.{one_of, not_gone, counted_opened}
+use Rattle.nt_machine.proofs.Settling.{queue_there}
 use Rattle.nt_laws.proofs.Standing.{is_living, Stands, lives_there, IsIdle, idle_lasts, stands_last, stands_pending, changed_idle}
 
 -- ---- what a wait names lives

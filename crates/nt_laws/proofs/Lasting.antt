@@ -20,7 +20,7 @@ use Rattle.nt_calls.specs.State.{State, object_at, with_object, with_handing, pe
 use Rattle.nt_calls.specs.Serving.{fits, status, objects_taken, taken_by, wait_granted, is_sleep, late_status, Grants, sequence}
 use Rattle.nt_calls.specs.Change.{change, notified, expired, expired_as, all_expired}
 use Rattle.nt_calls.specs.Steps.{Step, asked_wait, begun, answered, after_serving, MomentPasses, MomentsPass}
-use Rattle.nt_core.proofs.Accepting.{reading_taken_by}
+use Rattle.nt_machine.proofs.Accepting.{reading_taken_by}
 use Rattle.nt_core.proofs.Lengths.{length_taken}
 
 -- ---- objects that change, and none of them ends

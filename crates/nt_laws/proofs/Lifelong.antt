@@ -20,8 +20,8 @@ use Rattle.nt_calls.specs.Refusals.{first_of_causes, refusal}
 use Rattle.nt_calls.specs.State.{State, opening, object_at}
 use Rattle.nt_calls.specs.Living.{lives, LivesWhileKept}
 use Rattle.nt_core.specs.Renewals.{creation, created_by, created_again, opened_again, begun_again, creation_refusal, duplicate_refusal, thread_refusal, is_closed, is_vacant, is_left}
-use Rattle.nt_core.proofs.Accepting.{next_causes}
-use Rattle.nt_core.proofs.Remaining.{both}
+use Rattle.nt_machine.proofs.Accepting.{next_causes}
+use Rattle.nt_machine.proofs.Remaining.{both}
 use Rattle.nt_core.proofs.SettingAside.{may_move}
 use Rattle.nt_laws.specs.Laws.{IsKept}
 use Rattle.nt_laws.specs.Lives.{Stage, Takes, Creates, Shares, Begins, Adds, Renumbers, IsStage, Stages, Life}

@@ -13,7 +13,7 @@ use Rattle.nt_tables.specs.declared.handles.Opened.{Opened}
 use Rattle.nt_objects.specs.Object.{full_access}
 use Rattle.nt_tables.specs.Handles.{opened_at}
 use Rattle.nt_objects.specs.declared.object.Object.TheVariants.{Thread}
-use Rattle.nt_core.proofs.Handling.{own_count}
+use Rattle.nt_machine.proofs.Handling.{own_count}
 use Rattle.nt_calls.specs.declared.call.Call.{Call}
 use Rattle.nt_calls.specs.declared.call.Reply.{Reply}
 use Rattle.nt_calls.specs.declared.call.Grant.{Grant}
@@ -22,8 +22,8 @@ use Rattle.nt_calls.specs.Naming.{call_named}
 use Rattle.nt_calls.specs.Change.{change}
 use Rattle.nt_calls.specs.Steps.{Step, Called, Ticked}
 use Rattle.nt_calls.specs.Living.{Ends}
-use Rattle.nt_core.proofs.Remaining.{same_handles, same_count}
-use Rattle.nt_core.proofs.Listing.{same_yes, same_no}
+use Rattle.nt_machine.proofs.Remaining.{same_handles, same_count}
+use Rattle.nt_machine.proofs.Listing.{same_yes, same_no}
 use Rattle.nt_calls.specs.Runs.{Turn, Calls, Ticks, IsTurn}
 use Rattle.nt_laws.specs.Laws.{call_closes, turn_closes, HasRights}
 use Rattle.nt_laws.proofs.CallKinds.{IsCreated, IsDuplicated, IsSame, Kind, change_kind}

@@ -13,7 +13,7 @@ use Rattle.nt_tables.specs.Handles.{opened_at}
 use Rattle.nt_calls.specs.Naming.{object_named, object_in, access_in, lacks}
 use Rattle.nt_calls.specs.declared.call.Call.{Call}
 use Rattle.nt_calls.specs.Refusals.{first_of_causes, refusal}
-use Rattle.nt_core.proofs.Accepting.{next_causes}
+use Rattle.nt_machine.proofs.Accepting.{next_causes}
 use Rattle.nt_calls.specs.declared.call.Grant.{Grant}
 use Rattle.nt_calls.specs.State.{State, object_at}
 use Rattle.nt_core.specs.Renewals.{creation, created_by, or_else, duplicate_refusal, is_closed}

@@ -15,9 +15,9 @@ use Rattle.nt_calls.specs.declared.call.Call.{Call}
 use Rattle.nt_calls.specs.State.{State, Pending, object_at, wait_names, pending_no_more, pending_too}
 use Rattle.nt_calls.specs.Change.{created, opened_too, handle_closed}
 use Rattle.nt_waits.proofs.OthersLemmas.{member_others, member_of_others}
-use Rattle.nt_core.proofs.Beginning.{get_inserted, names_yes, names_no}
-use Rattle.nt_core.proofs.Walks.{get_removed, get_other}
-use Rattle.nt_core.proofs.Remaining.{both, turned}
+use Rattle.nt_machine.proofs.Beginning.{get_inserted, names_yes, names_no}
+use Rattle.nt_machine.proofs.Walks.{get_removed, get_other}
+use Rattle.nt_machine.proofs.Remaining.{both, turned}
 use Rattle.nt_laws.proofs.Lasting.{SameLife, Lasts}
 use Rattle.nt_laws.proofs.CallKinds.{IsCreated, IsDuplicated, IsSame, Kind}
 use Rattle.nt_laws.proofs.Numbers.{opened_more, opened_still}

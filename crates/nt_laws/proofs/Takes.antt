@@ -14,10 +14,10 @@ use Rattle.nt_calls.specs.declared.call.Grant.{Grant}
 use Rattle.nt_calls.specs.State.{State, Pending, object_at}
 use Rattle.nt_calls.specs.Serving.{is_ready, is_sleep, fits, least, status, status_at, is_abandoned_at, take_at, take_each, objects_taken, wait_granted, Grants, ending, IsLate, late_status, sleeps}
 use Rattle.nt_laws.specs.Takes.{Take, only_at, handles_told, takes_of, grant_took, grants_took, takers}
-use Rattle.nt_core.proofs.Listing.{same_yes, same_no}
+use Rattle.nt_machine.proofs.Listing.{same_yes, same_no}
 use Rattle.nt_calls.proofs.Tries.{object_taken_other, ready_other, differ}
-use Rattle.nt_core.proofs.Keeping.{list_all_at, list_any_at}
-use Rattle.nt_core.proofs.Walks.{get_removed}
+use Rattle.nt_machine.proofs.Keeping.{list_all_at, list_any_at}
+use Rattle.nt_machine.proofs.Walks.{get_removed}
 
 -- ---- one object, taken by one thread after another
 

@@ -27,17 +27,17 @@ use Rattle.nt_calls.specs.State.{State, Pending, opening, object_at, with_handin
 use Rattle.nt_calls.specs.Serving.{fits, status, is_sleep, late_status, taken_by, sequence, Alert, TimeOut}
 use Rattle.nt_calls.specs.Change.{change, expired, all_expired}
 use Rattle.nt_calls.specs.Rights.{is_denied}
-use Rattle.nt_core.proofs.Judging.{undenied}
+use Rattle.nt_machine.proofs.Judging.{undenied}
 use Rattle.nt_calls.specs.Refusals.{Cause, refusal, has_twice, is_unknown, is_at_limit}
 use Rattle.nt_calls.specs.Living.{all_gone, gone, Ends}
 use Rattle.nt_calls.specs.Steps.{Step, Called, asked_wait, begun, answered, after_serving, MomentPasses, MomentsPass, Ticked}
 use Rattle.nt_calls.specs.Runs.{Turn, Calls, Ticks, IsTurn, Turns}
 use Rattle.nt_laws.specs.Takes.{takes_of, grants_took, reply_took, call_took, turn_took, takers}
-use Rattle.nt_core.proofs.Remaining.{ends_waits}
-use Rattle.nt_core.proofs.Accepting.{next_causes, own_causes, distinct_handles, nothing_pends}
-use Rattle.nt_core.proofs.Alerting.{over_pending}
-use Rattle.nt_core.proofs.Beginning.{get_inserted}
-use Rattle.nt_core.proofs.Exiting.{left}
+use Rattle.nt_machine.proofs.Remaining.{ends_waits}
+use Rattle.nt_machine.proofs.Accepting.{next_causes, own_causes, distinct_handles, nothing_pends}
+use Rattle.nt_machine.proofs.Alerting.{over_pending}
+use Rattle.nt_machine.proofs.Beginning.{get_inserted}
+use Rattle.nt_machine.proofs.Exiting.{left}
 use Rattle.nt_laws.proofs.Takes.{TakenBy, TakenBy-append, takers-append, IsFair, AreFair, wait_taken, IsWithin, grants_within, grants_taken, grants_took-append, alerted_told, timed_told, late_told}
 use Rattle.nt_laws.proofs.Acting.{is_plain, expired_object, expired_waits, changed_at, change_object, change_waits, settled_at, settled_object, settled_waits}
 

@@ -11,8 +11,8 @@ use Rattle.nt_tables.proofs.Counting.{weight}
 use Rattle.nt_calls.specs.declared.call.Grant.{Grant}
 use Rattle.nt_calls.specs.Living.{is_opened}
 use Rattle.nt_calls.specs.State.{State, object_at}
-use Rattle.nt_core.specs.Dispatcher.{Dispatcher, state}
-use Rattle.nt_core.specs.Lawful.{IsLawful}
+use Rattle.nt_machine.specs.Dispatcher.{Dispatcher, state}
+use Rattle.nt_machine.specs.Lawful.{IsLawful}
 use Rattle.nt_core.specs.Renewals.{is_closed}
 use Rattle.nt_core.specs.SetAside.{SetsAside, named_instead, set_aside}
 use Rattle.nt_core.proofs.Renumbering.{opened_instead, count_other, count_to}

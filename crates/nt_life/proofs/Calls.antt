@@ -23,8 +23,8 @@ use Rattle.nt_calls.specs.Living.{is_opened, is_awaited, runs, is_kept, lives, L
 use Rattle.nt_calls.specs.Steps.{Called}
 use Rattle.nt_core.specs.Renewals.{is_closed, is_vacant}
 use Rattle.nt_apc.specs.Queues.{is_queued}
-use Rattle.nt_core.proofs.Lives.{counted_opened}
-use Rattle.nt_core.proofs.Remaining.{both, and_not}
+use Rattle.nt_machine.proofs.Lives.{counted_opened}
+use Rattle.nt_machine.proofs.Remaining.{both, and_not}
 use Rattle.nt_laws.specs.Laws.{call_closes}
 use Rattle.nt_laws.proofs.CallKinds.{Kind, change_kind}
 use Rattle.nt_laws.proofs.Numbers.{called_numbers}

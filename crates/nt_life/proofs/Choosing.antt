@@ -20,13 +20,13 @@ use Rattle.nt_calls.specs.State.{State, pends}
 use Rattle.nt_calls.specs.Living.{is_opened, is_awaited}
 use Rattle.nt_calls.specs.Refusals.{first_of_causes, refusal}
 use Rattle.nt_calls.specs.Steps.{Called}
-use Rattle.nt_core.specs.Dispatcher.{Dispatcher, state}
-use Rattle.nt_core.specs.Lawful.{IsLawful}
+use Rattle.nt_machine.specs.Dispatcher.{Dispatcher, state}
+use Rattle.nt_machine.specs.Lawful.{IsLawful}
 use Rattle.nt_core.specs.Renewals.{is_closed, is_vacant, AddsVacant, DuplicatesAgain}
 use Rattle.nt_core.specs.SetAside.{is_movable}
-use Rattle.nt_core.proofs.Accepting.{free_caller}
-use Rattle.nt_core.proofs.Changing.{object_at-append, reading_created}
-use Rattle.nt_core.proofs.Remaining.{some_handle}
+use Rattle.nt_machine.proofs.Accepting.{free_caller}
+use Rattle.nt_machine.proofs.Changing.{object_at-append, reading_created}
+use Rattle.nt_machine.proofs.Remaining.{some_handle}
 use Rattle.nt_life.specs.Lasting.{Spares, IsSpare, times, is_creation, last_closed, LastsCreation, LastsDuplicate, LastsAct, LastsCall, NoHandle, NoObject, FindsNone}
 use Rattle.nt_life.proofs.Calls.{none_vacant}
 use Rattle.nt_life.proofs.Limits.{wants_number, IsFull}

@@ -6,7 +6,7 @@ use Rattle.std.proofs.lemmas.Bool.Decides.{nat_tests}
 use Rattle.nt_tables.proofs.Counting.{weight}
 use Rattle.nt_calls.specs.State.{State}
 use Rattle.nt_core.specs.Renewals.{is_closed}
-use Rattle.nt_core.proofs.Remaining.{both}
+use Rattle.nt_machine.proofs.Remaining.{both}
 use Rattle.nt_life.specs.Lasting.{times, is_unnamed}
 use Rattle.nt_life.proofs.Spares.{below_more, and_not}
 use Rattle.nt_life.proofs.Times.{same_weight, other_weight, times_end}

@@ -17,10 +17,10 @@ use Rattle.nt_calls.specs.declared.call.Grant.{Grant}
 use Rattle.nt_calls.specs.State.{State, object_at}
 use Rattle.nt_calls.specs.Change.{change}
 use Rattle.nt_calls.specs.Naming.{call_named, object_named}
-use Rattle.nt_core.specs.Accepts.{IsLocal, is_by_objects}
-use Rattle.nt_core.specs.Dispatcher.{Dispatcher, state}
+use Rattle.nt_machine.specs.Accepts.{IsLocal, is_by_objects}
+use Rattle.nt_machine.specs.Dispatcher.{Dispatcher, state}
 use Rattle.nt_core.specs.Renewals.{CreatesAgain, DuplicatesAgain}
-use Rattle.nt_core.proofs.Changing.{object_at-append}
+use Rattle.nt_machine.proofs.Changing.{object_at-append}
 use Rattle.nt_life.specs.Lasting.{Spares, LooksAt, CreatesSpare, CreatesMore, CreatesBeside, is_creation, last_closed}
 
 -- it changes no object that there was, so it has nobody to look at; and it looks at nobody

@@ -25,9 +25,9 @@ use Rattle.nt_calls.specs.Naming.{object_named, object_in, lacks}
 use Rattle.nt_calls.specs.Living.{is_opened}
 use Rattle.nt_calls.specs.Refusals.{first_of_causes, refusal}
 use Rattle.nt_core.specs.Renewals.{is_closed, is_vacant, creation, created_by, or_else, is_left, CreatesAgain, DuplicatesAgain, BeginsAgain}
-use Rattle.nt_core.proofs.Accepting.{next_causes}
-use Rattle.nt_core.proofs.Lives.{counted_opened}
-use Rattle.nt_core.proofs.Remaining.{both}
+use Rattle.nt_machine.proofs.Accepting.{next_causes}
+use Rattle.nt_machine.proofs.Lives.{counted_opened}
+use Rattle.nt_machine.proofs.Remaining.{both}
 use Rattle.nt_life.specs.Lasting.{Spares, IsSpare, times, is_unnamed}
 use Rattle.nt_life.proofs.Spares.{handles_given, objects_given, objects_shared, objects_begun, closed_more}
 

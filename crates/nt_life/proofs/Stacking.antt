@@ -16,7 +16,7 @@ use Rattle.nt_calls.specs.declared.call.Grant.{Grant}
 use Rattle.nt_calls.specs.State.{State}
 use Rattle.nt_calls.specs.Rights.{is_denied}
 use Rattle.nt_calls.specs.Steps.{Called}
-use Rattle.nt_core.proofs.Accepting.{next_causes}
+use Rattle.nt_machine.proofs.Accepting.{next_causes}
 use Rattle.nt_laws.specs.Laws.{call_closes}
 use Rattle.nt_laws.proofs.CallKinds.{call_causes_none}
 use Rattle.nt_life.specs.Lasting.{Pops, IsStacked}

@@ -24,9 +24,9 @@ use Rattle.nt_calls.specs.Naming.{call_named, object_named}
 use Rattle.nt_calls.specs.Rights.{is_denied}
 use Rattle.nt_calls.specs.Refusals.{first_of_causes, is_full, is_unknown, call_causes, creation_causes, duplicate_causes}
 use Rattle.nt_calls.specs.Steps.{Called}
-use Rattle.nt_core.specs.Lawful.{HandlesAgree}
+use Rattle.nt_machine.specs.Lawful.{HandlesAgree}
 use Rattle.nt_core.specs.Renewals.{is_closed, is_vacant, AddsVacant, CreatesAgain, DuplicatesAgain}
-use Rattle.nt_core.proofs.Accepting.{next_causes}
+use Rattle.nt_machine.proofs.Accepting.{next_causes}
 use Rattle.nt_laws.proofs.CallKinds.{call_causes_none}
 use Rattle.nt_life.specs.Lasting.{Spares, is_creation, can_give_last, last_closed, last_unnamed, CreatesBeside, CreatesByTurn, CreatesElse, LastsCreation, LastsDuplicate, LastsCall, NoHandle, NoObject, FindsNone}
 use Rattle.nt_life.proofs.Renewed.{created_free, duplicated_free}

@@ -11,7 +11,7 @@ use Rattle.nt_calls.specs.declared.call.Reply.{Reply}
 use Rattle.nt_calls.specs.declared.call.Grant.{Grant}
 use Rattle.nt_calls.specs.State.{State}
 use Rattle.nt_core.specs.Renewals.{is_vacant, CreatesAgain}
-use Rattle.nt_core.proofs.Remaining.{both}
+use Rattle.nt_machine.proofs.Remaining.{both}
 use Rattle.nt_life.specs.Lasting.{Spares, IsFound, is_creation, is_last_vacant, is_turn_vacant, can_give_last, can_give_turn, last_closed, last_unnamed, next_turn, turn_after, turn_place, turn_unnamed, finds_object, KeepsOrder, MayKeepOrder, CreatesByTurn, CreatesElse, LastsCreation}
 
 closed_test : (spare : Spares) → 0 < length spare.closed → nat_lt 0 (length spare.closed) ≡ true

@@ -11,8 +11,8 @@ use Rattle.nt_calls.specs.declared.call.Grant.{Grant}
 use Rattle.nt_calls.specs.State.{State}
 use Rattle.nt_calls.specs.Moves.{Moves, pended, is_wait}
 use Rattle.nt_calls.specs.Steps.{Called}
-use Rattle.nt_core.specs.Dispatcher.{Dispatcher, state}
-use Rattle.nt_core.specs.Lawful.{IsLawful}
+use Rattle.nt_machine.specs.Dispatcher.{Dispatcher, state}
+use Rattle.nt_machine.specs.Lawful.{IsLawful}
 use Rattle.nt_life.specs.Lasting.{Spares, LastsCall, FindsNone, IsStacked, KeepsOrder, KeepsPace, LooksAt, Lasts, turn_after}
 use Rattle.nt_life.proofs.Once.{unchanged_by}
 use Rattle.nt_life.proofs.Taken.{call_taken}

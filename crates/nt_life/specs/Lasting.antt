@@ -17,9 +17,9 @@ use Rattle.nt_calls.specs.Moves.{Moves, pended, is_wait}
 use Rattle.nt_calls.specs.Living.{is_opened}
 use Rattle.nt_calls.specs.Refusals.{refusal}
 use Rattle.nt_calls.specs.Steps.{Called}
-use Rattle.nt_core.specs.Dispatcher.{Dispatcher, state}
-use Rattle.nt_core.specs.Accepts.{IsLocal}
-use Rattle.nt_core.specs.Lawful.{IsLawful}
+use Rattle.nt_machine.specs.Dispatcher.{Dispatcher, state}
+use Rattle.nt_machine.specs.Accepts.{IsLocal}
+use Rattle.nt_machine.specs.Lawful.{IsLawful}
 use Rattle.nt_calls.specs.Naming.{call_named}
 use Rattle.nt_core.specs.Renewals.{is_closed, is_vacant, is_left, AddsVacant, CreatesAgain, DuplicatesAgain, BeginsAgain, creation}
 use Rattle.nt_core.specs.SetAside.{is_movable, SetsAside}

@@ -1,7 +1,7 @@
 //! Threads that begin in the places of those that have ended.
 ghost use Rattle.std.specs.Prelude.{◌≡◌, true};
-ghost use Rattle.nt_core.specs.Dispatcher.{state};
-ghost use Rattle.nt_core.specs.Lawful.{IsLawful};
+ghost use Rattle.nt_machine.specs.Dispatcher.{state};
+ghost use Rattle.nt_machine.specs.Lawful.{IsLawful};
 ghost use Rattle.nt_core.specs.Renewals.{is_closed};
 ghost use Rattle.nt_life.specs.Lasting.{MaySpare, BeginsSpare, BeginsThis, MayBegin, MayBeginThis, MayPop, HasSpare, BeginsSomewhere, LeavesSpare};
 

@@ -1,6 +1,6 @@
 //! A dispatcher that gave each number once, and gives numbers again from now on.
-ghost use Rattle.nt_core.specs.Dispatcher.{state};
-ghost use Rattle.nt_core.specs.Lawful.{IsLawful};
+ghost use Rattle.nt_machine.specs.Dispatcher.{state};
+ghost use Rattle.nt_machine.specs.Lawful.{IsLawful};
 ghost use Rattle.nt_life.specs.Lasting.{GivesFromNow, MaySpare};
 
 use crate::spare::Spare;

@@ -5,8 +5,8 @@ ghost use Rattle.nt_status.specs.declared.refusal.Refusal.TheVariants.{HandleLim
 ghost use Rattle.nt_calls.specs.declared.call.Call.{Call};
 ghost use Rattle.nt_calls.specs.declared.call.Act.{Act};
 ghost use Rattle.nt_calls.specs.Steps.{Called};
-ghost use Rattle.nt_core.specs.Dispatcher.{state};
-ghost use Rattle.nt_core.specs.Lawful.{IsLawful};
+ghost use Rattle.nt_machine.specs.Dispatcher.{state};
+ghost use Rattle.nt_machine.specs.Lawful.{IsLawful};
 ghost use Rattle.nt_core.specs.Renewals.{CreatesAgain};
 ghost use Rattle.nt_life.specs.Lasting.{IsSpare, MaySpare, LooksAt, gives, is_numbered, NoHandle, NoObject, CreatesElse, LastsCreation, LastsDuplicate, KeepsPace, is_creation, is_unnamed, HasSpare, IsClosedLast, LacksOnlyNumbers, CreatesAtLimit, LeavesSpare, TakesNumbers, turn_after, finds_object, Lasts};
 ghost use Rattle.nt_life.specs.declared.renewal.Renewal.TheVariants.{Create};

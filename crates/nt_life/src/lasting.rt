@@ -5,12 +5,12 @@ ghost use Rattle.nt_status.specs.declared.refusal.Refusal.TheVariants.{InvalidPa
 ghost use Rattle.nt_calls.specs.State.{opening};
 ghost use Rattle.nt_calls.specs.Steps.{Called, Ticked};
 ghost use Rattle.nt_calls.specs.Moves.{Moves, IsMomentAfter};
-ghost use Rattle.nt_core.specs.Accepts.{IsTickLocal};
+ghost use Rattle.nt_machine.specs.Accepts.{IsTickLocal};
 ghost use Rattle.std.specs.FinMap as map;
 ghost use Rattle.nt_calls.specs.declared.call.Call.{Call};
 ghost use Rattle.nt_calls.specs.declared.call.WaitCall.{WaitCall};
-ghost use Rattle.nt_core.specs.Dispatcher.{state};
-ghost use Rattle.nt_core.specs.Lawful.{IsLawful};
+ghost use Rattle.nt_machine.specs.Dispatcher.{state};
+ghost use Rattle.nt_machine.specs.Lawful.{IsLawful};
 ghost use Rattle.nt_life.specs.Lasting.{MaySpare, MayBegin, KeepsPace, LooksAt, KeepsClosed, GivesFromNow, gives, MayBeginThis, MayPop, MaySetAside, no_spares, MakesCall, KeepsLimits, MayStack, MayTurn, MayKeepOrder, IsUnchanged};
 ghost use Rattle.nt_life.specs.Renewals.{Tells};
 
@@ -43,8 +43,8 @@ impl Drop for Lasting {
 impl Model for Lasting {
     ghost use Rattle.std.specs.Coded.{codes};
     ghost use Rattle.nt_waits.specs.Waits.{waits_code};
-    ghost use Rattle.nt_core.specs.Dispatcher.{state};
-    ghost use Rattle.nt_core.specs.Lawful.{IsLawful};
+    ghost use Rattle.nt_machine.specs.Dispatcher.{state};
+    ghost use Rattle.nt_machine.specs.Lawful.{IsLawful};
     ghost use Rattle.nt_life.specs.Lasting.{WithSpare, MaySpare};
 
     ghost Value = { WithSpare };

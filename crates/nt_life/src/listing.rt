@@ -1,7 +1,7 @@
 //! Which numbers of a dispatcher are spare, found by a look at each handle and at each object.
 ghost use Rattle.std.specs.Prelude.{◌≡◌, ℕ, IfOk, if◌then◌else◌};
-ghost use Rattle.nt_core.specs.Dispatcher.{state};
-ghost use Rattle.nt_core.specs.Lawful.{IsLawful};
+ghost use Rattle.nt_machine.specs.Dispatcher.{state};
+ghost use Rattle.nt_machine.specs.Lawful.{IsLawful};
 ghost use Rattle.nt_core.specs.Renewals.{is_closed};
 ghost use Rattle.nt_life.specs.Lasting.{times, is_unnamed};
 

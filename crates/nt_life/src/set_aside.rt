@@ -1,7 +1,7 @@
 //! Ended threads that handles still name, and whose objects are set aside.
 ghost use Rattle.std.specs.Prelude.{◌≡◌, ◌<◌, true, Ok, OnErr, length, slice_index_or};
-ghost use Rattle.nt_core.specs.Dispatcher.{state};
-ghost use Rattle.nt_core.specs.Lawful.{IsLawful};
+ghost use Rattle.nt_machine.specs.Dispatcher.{state};
+ghost use Rattle.nt_machine.specs.Lawful.{IsLawful};
 ghost use Rattle.nt_core.specs.Renewals.{is_vacant};
 ghost use Rattle.nt_core.specs.SetAside.{is_movable};
 ghost use Rattle.nt_life.specs.Lasting.{MaySpare, KeepsClosed, MovesAside, SetsAsideSpare, MaySetAside, HasSpare};

@@ -2,8 +2,8 @@
 ghost use Rattle.std.specs.Prelude.{◌≡◌, ◌<◌, ◌≤◌, ◌-◌, ◌++◌, ◌∷◌, ℕ, [], true, false, length, slice_index_or, IfOk, IfSome, IfNone, if◌then◌else◌};
 ghost use Rattle.std.specs.List.{swap_remove};
 ghost use Rattle.nt_status.specs.declared.limits.TheConstants.{MAX_HANDLES};
-ghost use Rattle.nt_core.specs.Dispatcher.{state};
-ghost use Rattle.nt_core.specs.Lawful.{IsLawful};
+ghost use Rattle.nt_machine.specs.Dispatcher.{state};
+ghost use Rattle.nt_machine.specs.Lawful.{IsLawful};
 ghost use Rattle.nt_core.specs.Renewals.{is_vacant};
 ghost use Rattle.nt_life.specs.Lasting.{IsSpare, IsFound, last_closed, next_turn};
 

@@ -13,7 +13,7 @@ use Rattle.nt_tables.specs.Handles.{opened_at, names, count_named}
 use Rattle.nt_calls.specs.State.{State}
 use Rattle.nt_calls.specs.Naming.{no_object, object_in, object_named, access_in, lacks}
 use Rattle.nt_calls.specs.Refusals.{Cause, first_of_causes}
-use Rattle.nt_core.proofs.Accepting.{next_causes}
+use Rattle.nt_machine.proofs.Accepting.{next_causes}
 use Rattle.nt_look.specs.Hangs.{gives, is_given}
 use Rattle.nt_look.proofs.Parts.{not_first, not_second, not_false, together, handle_at, no_handle}
 

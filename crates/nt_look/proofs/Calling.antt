@@ -25,7 +25,7 @@ use Rattle.nt_calls.specs.Naming.{no_object, object_named, act_named, call_named
 use Rattle.nt_calls.specs.Rights.{act_denied, is_denied}
 use Rattle.nt_calls.specs.Refusals.{refusal, is_no, is_unknown}
 use Rattle.nt_calls.specs.Steps.{after_serving}
-use Rattle.nt_core.proofs.Exiting.{left}
+use Rattle.nt_machine.proofs.Exiting.{left}
 use Rattle.nt_look.specs.Hangs.{will_call, is_by, is_called_in_time, is_given}
 use Rattle.nt_look.proofs.Parts.{neither, none_of, not_second, any_push, any_mapped, any_set, at_own}
 use Rattle.nt_look.proofs.Standstill.{call_own}

@@ -8,8 +8,8 @@ use Rattle.nt_objects.specs.Object.{has_ended}
 use Rattle.nt_waits.specs.declared.wait.Wait.{Wait}
 use Rattle.nt_apc.specs.Queues.{has_apc}
 use Rattle.nt_calls.specs.State.{object_at, pends}
-use Rattle.nt_core.specs.Dispatcher.{Dispatcher, state}
-use Rattle.nt_core.specs.Lawful.{IsLawful}
+use Rattle.nt_machine.specs.Dispatcher.{Dispatcher, state}
+use Rattle.nt_machine.specs.Lawful.{IsLawful}
 use Rattle.nt_look.specs.Hangs.{will_come, fits_in_time, is_called_in_time, ends_in_time, can_be_called, is_held, marked, unmarked, IsStuck, IsTied}
 use Rattle.nt_look.specs.Deciding.{ends_by_time, is_in_reach, is_bound, IsHanging}
 use Rattle.nt_look.proofs.Parts.{both_of, together}

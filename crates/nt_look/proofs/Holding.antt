@@ -24,9 +24,9 @@ use Rattle.nt_calls.specs.Living.{gone, all_gone}
 use Rattle.nt_calls.specs.Refusals.{Cause, refusal, is_no, is_unknown, is_foreign, is_full, is_at_limit, may_signal}
 use Rattle.nt_calls.specs.Rights.{act_denied, signal_denied, is_denied}
 use Rattle.nt_calls.specs.Steps.{after_serving}
-use Rattle.nt_core.proofs.Accepting.{next_causes}
-use Rattle.nt_core.proofs.Changing.{object_at-append}
-use Rattle.nt_core.proofs.Exiting.{left, mapped_at}
+use Rattle.nt_machine.proofs.Accepting.{next_causes}
+use Rattle.nt_machine.proofs.Changing.{object_at-append}
+use Rattle.nt_machine.proofs.Exiting.{left, mapped_at}
 use Rattle.nt_apc.specs.Queues.{oldest_taken}
 use Rattle.nt_calls.specs.Naming.{act_named, call_named, object_named, lacks, no_object}
 use Rattle.nt_look.specs.Hangs.{will_come, gives, is_given, holds}

@@ -23,8 +23,8 @@ use Rattle.nt_calls.specs.Refusals.{refusal}
 use Rattle.nt_calls.specs.Steps.{Step, answered, after_serving, MomentPasses, MomentsPass}
 use Rattle.nt_calls.specs.Moves.{granted_to, one_if}
 use Rattle.nt_calls.specs.Runs.{Turn, Calls, Ticks, Turns}
-use Rattle.nt_core.specs.Dispatcher.{Dispatcher, state}
-use Rattle.nt_core.specs.Lawful.{IsLawful}
+use Rattle.nt_machine.specs.Dispatcher.{Dispatcher, state}
+use Rattle.nt_machine.specs.Lawful.{IsLawful}
 use Rattle.nt_apc.specs.Queues.{has_apc}
 use Rattle.nt_look.specs.Hangs.{is_called_in_time, is_given, can_be_called, IsKnot}
 use Rattle.nt_look.proofs.Parts.{neither, none_of}

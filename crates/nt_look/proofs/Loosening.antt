@@ -9,7 +9,7 @@ use Rattle.nt_status.specs.Access.{modify_state}
 use Rattle.nt_objects.specs.declared.object.Object.{Object}
 use Rattle.nt_objects.specs.declared.object.Object.TheVariants.{Event, Semaphore, Mutex, Timer, Thread, Gone}
 use Rattle.nt_calls.specs.State.{State, object_at}
-use Rattle.nt_core.specs.Dispatcher.{Dispatcher, state}
+use Rattle.nt_machine.specs.Dispatcher.{Dispatcher, state}
 use Rattle.nt_look.specs.Hangs.{is_given, holds, held_at, marked, unmarked, IsTied, IsKnot}
 use Rattle.nt_look.specs.Deciding.{IsUntied}
 use Rattle.nt_look.proofs.Parts.{both_of, together, any_kept, all_kept}

@@ -9,8 +9,8 @@ use Rattle.std.proofs.lemmas.Option.{slice_get_within}
 use Rattle.nt_calls.specs.State.{State, pends}
 use Rattle.nt_calls.specs.Runs as runs
 use Rattle.nt_calls.specs.Runs.{Turn, Turns, IsTurn}
-use Rattle.nt_core.specs.Dispatcher.{Dispatcher, state}
-use Rattle.nt_core.specs.Lawful.{IsLawful}
+use Rattle.nt_machine.specs.Dispatcher.{Dispatcher, state}
+use Rattle.nt_machine.specs.Lawful.{IsLawful}
 use Rattle.nt_look.specs.Hangs.{IsKnot}
 use Rattle.nt_look.specs.Hanging.{AreBy}
 use Rattle.nt_look.specs.Orders.{Ask, Calls, Passes, Plan, Point, place, asks, has_more, goes_on, IsAskMade, Goes, Order, Hangs, IsLost, IsClosed, steps}

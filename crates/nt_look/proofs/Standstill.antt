@@ -18,7 +18,7 @@ use Rattle.nt_calls.specs.Rights.{is_denied}
 use Rattle.nt_calls.specs.Refusals.{first_of_causes, call_causes, refusal}
 use Rattle.nt_calls.specs.Steps.{Ticked}
 use Rattle.nt_calls.specs.Runs.{Turn, Calls, Ticks, Turns}
-use Rattle.nt_core.proofs.Accepting.{next_causes}
+use Rattle.nt_machine.proofs.Accepting.{next_causes}
 use Rattle.nt_look.specs.Hangs.{IsStuck}
 use Rattle.nt_look.specs.Hanging.{AreBy, AreVain}
 use Rattle.nt_look.proofs.Parts.{together}

@@ -21,7 +21,7 @@ use Rattle.nt_calls.specs.Serving.{fits, is_ready, is_sleep, status, satisfied, 
 use Rattle.nt_calls.specs.Steps.{begun}
 use Rattle.nt_calls.specs.Moves.{one_if, granted_to}
 use Rattle.nt_core.proofs.Lengths.{length_taken}
-use Rattle.nt_core.proofs.Walks.{get_other}
+use Rattle.nt_machine.proofs.Walks.{get_other}
 use Rattle.nt_calls.specs.Naming.{no_object}
 use Rattle.nt_look.specs.Hangs.{will_come, is_called_in_time, is_given, can_be_called, IsKnot, IsTied, held_at}
 use Rattle.nt_look.proofs.Parts.{neither, none_of, not_second, second_false, not_true, not_with, both_of, any_kept, all_kept, all_against, any_against}

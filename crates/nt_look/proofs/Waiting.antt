@@ -20,7 +20,7 @@ use Rattle.nt_calls.specs.Rising.{IsRising}
 use Rattle.nt_calls.specs.Serving.{is_ready, is_sleep, fits}
 use Rattle.nt_calls.specs.Change.{expired, expired_as, all_expired, notified}
 use Rattle.nt_calls.specs.Living.{runs, gone, all_gone}
-use Rattle.nt_core.proofs.Changing.{object_at-set_other}
+use Rattle.nt_machine.proofs.Changing.{object_at-set_other}
 use Rattle.nt_look.specs.Hangs.{will_come, comes_in_time, fits_in_time, is_by, will_call, is_called_in_time, ends_in_time}
 use Rattle.nt_look.proofs.Parts.{neither, none_of, not_both, not_first, not_second, second_false, not_with, both_of, any_less, all_less, at_set, any_set, any_at}
 

@@ -5,8 +5,8 @@ use Rattle.nt_status.specs.declared.limits.TheConstants.{MAX_MOMENT}
 use Rattle.nt_calls.specs.State.{State}
 use Rattle.nt_calls.specs.Moves.{granted_to}
 use Rattle.nt_calls.specs.Runs.{Turn, Calls, Ticks, Turns}
-use Rattle.nt_core.specs.Dispatcher.{Dispatcher, state}
-use Rattle.nt_core.specs.Lawful.{IsLawful}
+use Rattle.nt_machine.specs.Dispatcher.{Dispatcher, state}
+use Rattle.nt_machine.specs.Lawful.{IsLawful}
 use Rattle.nt_look.specs.Hangs.{IsStuck, IsKnot}
 
 -- the turns are calls of these threads, and ticks, none of which is to a moment beyond the greatest: a dispatcher takes no other

@@ -9,8 +9,8 @@ use Rattle.nt_calls.specs.declared.call.Grant.{Grant}
 use Rattle.nt_calls.specs.State.{State, pends}
 use Rattle.nt_calls.specs.Steps.{Called, Ticked}
 use Rattle.std.specs.FinMap.{get}
-use Rattle.nt_core.specs.Dispatcher.{Dispatcher, state}
-use Rattle.nt_core.specs.Lawful.{IsLawful}
+use Rattle.nt_machine.specs.Dispatcher.{Dispatcher, state}
+use Rattle.nt_machine.specs.Lawful.{IsLawful}
 use Rattle.nt_look.specs.Hangs.{IsStuck, IsKnot}
 
 -- what a lane does next: its thread makes a call, or moments pass

@@ -1,7 +1,7 @@
 //! Which threads hold each other.
 ghost use Rattle.std.specs.Prelude.{◌≡◌, ◌<◌, ◌↔◌, true, not, length, MatchOption, IfOk};
 ghost use Rattle.std.specs.List.{list_all, list_any};
-ghost use Rattle.nt_core.specs.Dispatcher.{state};
+ghost use Rattle.nt_machine.specs.Dispatcher.{state};
 ghost use Rattle.nt_status.specs.Access.{modify_state};
 ghost use Rattle.nt_look.specs.Hangs.{holds, held_at, is_given, is_held, marked, unmarked, IsTied, IsKnot, IsGreatestKnot};
 ghost use Rattle.nt_look.specs.Deciding.{is_bound, is_in_reach, IsUntied};

@@ -1,7 +1,7 @@
 //! What handles allow.
 ghost use Rattle.std.specs.Prelude.{◌≡◌, ◌||◌, true};
 ghost use Rattle.std.specs.List.{list_any};
-ghost use Rattle.nt_core.specs.Dispatcher.{state};
+ghost use Rattle.nt_machine.specs.Dispatcher.{state};
 ghost use Rattle.nt_tables.specs.Handles.{names, opened_at};
 ghost use Rattle.nt_look.specs.Hangs.{gives, is_given};
 

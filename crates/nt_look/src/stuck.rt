@@ -1,6 +1,6 @@
 //! Whether nothing can end the waits there are.
 ghost use Rattle.std.specs.Prelude.{◌≡◌, ◌<◌, ◌↔◌, true};
-ghost use Rattle.nt_core.specs.Dispatcher.{state};
+ghost use Rattle.nt_machine.specs.Dispatcher.{state};
 ghost use Rattle.nt_look.specs.Hangs.{will_come, comes_in_time, fits_in_time, is_by, will_call, is_called_in_time, marked, unmarked, IsStuck};
 ghost use Rattle.nt_look.specs.Deciding.{ends_by_time, IsHanging};
 ghost use Rattle.std.specs.List.{list_all, list_any};

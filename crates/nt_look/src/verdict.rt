@@ -1,6 +1,6 @@
 //! Why threads wait, in one answer.
 ghost use Rattle.std.specs.Prelude.{◌≡◌, ◌↔◌, true, IfOk, MatchOption};
-ghost use Rattle.nt_core.specs.Dispatcher.{state};
+ghost use Rattle.nt_machine.specs.Dispatcher.{state};
 ghost use Rattle.nt_calls.specs.Steps.{IsNextMoment, NothingDue};
 ghost use Rattle.nt_look.specs.Hangs.{IsStuck, IsGreatestKnot};
 

@@ -2,7 +2,7 @@
 ghost use Rattle.std.specs.Prelude.{◌≡◌, ◌<◌, ◌++◌, ◌&&◌, ℕ, length, IfOk, OnOk, codes};
 ghost use Rattle.nt_calls.specs.State.{pends};
 ghost use Rattle.nt_look.specs.Hangs.{marked, unmarked};
-ghost use Rattle.nt_core.specs.Dispatcher.{state};
+ghost use Rattle.nt_machine.specs.Dispatcher.{state};
 ghost use Rattle.nt_orders.specs.Hangs.{hang_text, AreHeld};
 
 use nt_core::Core;

@@ -1,6 +1,6 @@
 //! The lines after the head, by lanes.
 ghost use Rattle.std.specs.Prelude.{◌≡◌, ◌⊎◌, ◌+◌, ◌^◌, ◌<◌, [], None, Some, length, replicate, IfErr, IfOk, OnOk};
-ghost use Rattle.nt_core.specs.Dispatcher.{state};
+ghost use Rattle.nt_machine.specs.Dispatcher.{state};
 ghost use Rattle.nt_lines.specs.Lines.{lines_of};
 ghost use Rattle.nt_script.specs.Progress.{progress};
 ghost use Rattle.nt_grammar.specs.declared.parser.Statement.TheVariants as statement;

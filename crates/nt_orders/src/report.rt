@@ -1,6 +1,6 @@
 //! The report of a script's orders.
 ghost use Rattle.std.specs.Prelude.{◌≡◌, IfOk};
-ghost use Rattle.nt_core.specs.Dispatcher.{state};
+ghost use Rattle.nt_machine.specs.Dispatcher.{state};
 ghost use Rattle.nt_hangs.specs.Watching.{before_zero};
 ghost use Rattle.nt_orders.specs.Ending.{verdict_code, PlanIsJudged, IsOrdersOutcome};
 ghost use Rattle.nt_orders.specs.Reading.{lanes_of};

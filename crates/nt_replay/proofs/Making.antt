@@ -9,7 +9,7 @@ use Rattle.nt_calls.specs.declared.call.Grant.{Grant}
 use Rattle.nt_calls.specs.State.{State}
 use Rattle.nt_calls.specs.Runs.{Calls, Ticks}
 use Rattle.nt_calls.specs.Steps.{Called as Makes, Ticked as Passes}
-use Rattle.nt_core.specs.Dispatcher.{Dispatcher, state}
+use Rattle.nt_machine.specs.Dispatcher.{Dispatcher, state}
 use Rattle.nt_core.specs.Renewals.{CreatesAgain, DuplicatesAgain, BeginsAgain, AddsVacant}
 use Rattle.nt_laws.specs.Laws.{AsksCall}
 use Rattle.nt_laws.specs.Lives.{Stage, Takes, Creates, Shares, Begins, Adds, IsStage, LivesOneWay, wish, AsksTurn, AsksNumber}

@@ -5,7 +5,7 @@ use Rattle.nt_status.specs.declared.refusal.Refusal.{Refusal}
 use Rattle.nt_calls.specs.declared.call.Call.{Call}
 use Rattle.nt_calls.specs.declared.call.Reply.{Reply}
 use Rattle.nt_calls.specs.declared.call.Grant.{Grant}
-use Rattle.nt_core.specs.Dispatcher.{Dispatcher, state}
+use Rattle.nt_machine.specs.Dispatcher.{Dispatcher, state}
 use Rattle.nt_core.specs.Renewals.{AddsVacant}
 use Rattle.nt_laws.specs.Laws.{wants_memory}
 use Rattle.nt_laws.specs.Lives.{Stage, Life, wants_number}

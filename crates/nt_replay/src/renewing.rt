@@ -1,7 +1,7 @@
 //! Numbers given again as the entries tell.
 ghost use Rattle.std.specs.Prelude.{◌≡◌, ◌≢◌, ℕ, IfOk, IfErr, Ok, Err};
 ghost use Rattle.nt_calls.specs.declared.call.Act.{Act};
-ghost use Rattle.nt_core.specs.Dispatcher.{state};
+ghost use Rattle.nt_machine.specs.Dispatcher.{state};
 ghost use Rattle.nt_laws.specs.Lives.{wants_number};
 ghost use Rattle.nt_mail.specs.declared.entry.Entry.TheVariants.{Renewed};
 ghost use Rattle.nt_life.specs.declared.renewal.Renewal.TheVariants.{CreateAdded, Unadded};

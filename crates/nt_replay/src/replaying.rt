@@ -1,7 +1,7 @@
 //! Entries made again, one after another.
 ghost use Rattle.std.specs.Prelude.{◌≡◌, ◌≢◌, ◌<◌, ◌↔◌, Some, length, true, false, IfOk, IfErr, OnOk};
 ghost use Rattle.std.specs.List.{slice_get, list_any};
-ghost use Rattle.nt_core.specs.Dispatcher.{state};
+ghost use Rattle.nt_machine.specs.Dispatcher.{state};
 ghost use Rattle.nt_laws.specs.Laws.{wants_memory};
 ghost use Rattle.nt_mail.specs.Journals.{IsLifeFrom, IsRunFrom, is_renewal};
 ghost use Rattle.nt_replay.specs.Replays.{ReplayGoesOn, StopsFor, IsUnreplayed, IsMismatch, EntryIsDone, IsUndone};

@@ -3,7 +3,7 @@ use Rattle.std.specs.Prelude.{◌≡◌, ℕ, ◌+◌, ◌<◌, ◌≤◌, List,
 use Rattle.std.specs.List.{sum_by}
 use Rattle.std.specs.FinMap.{len}
 use Rattle.nt_calls.specs.State.{State, opening}
-use Rattle.nt_core.specs.Dispatcher.{state}
+use Rattle.nt_machine.specs.Dispatcher.{state}
 use Rattle.nt_calls.specs.Runs.{Turn, Turns, IsTurn, Calls, Ticks}
 use Rattle.nt_grammar.specs.declared.fault.LineFault.{LineFault}
 use Rattle.nt_grammar.specs.declared.fault.LineFault.TheVariants as fault

@@ -3,7 +3,7 @@
 ghost use Rattle.std.specs.Prelude.{◌≡◌, ◌+◌, ◌*◌, ◌-◌, ◌<◌, ◌≤◌, ◌^◌, ◌∷◌, [], ◌++◌, OnOk, OnErr, IfOk, IfErr, IfSome, length, None, Some, vec_len, vec_capacity, Result, Ok, Err};
 ghost use Rattle.std.specs.FinMap.{len};
 ghost use Rattle.nt_lines.specs.declared.input.TheConstants.{MAX_LINE};
-ghost use Rattle.nt_core.specs.Dispatcher.{state};
+ghost use Rattle.nt_machine.specs.Dispatcher.{state};
 ghost use Rattle.nt_grammar.specs.Reading.{Gives, statement_of, opening_of};
 ghost use Rattle.nt_grammar.specs.Naming.{NamesFree};
 ghost use Rattle.nt_grammar.specs.Scope.{bound_in, handle_in, name_in};

@@ -2,7 +2,7 @@
 use Rattle.std.proofs.Common.{◌≡◌, ℕ, zero, suc, ◌<◌, ◌≤◌, Bool, true, false, List, [], ◌∷◌, length, replicate, slice_set, Option, None, Some, refl, sym, ap, ◌∙◌, subst, inl, inr, arith, length-set, get_or-set_same, get_or-set_other}
 use Rattle.std.specs.Prelude.{Result, Ok, Err, OnErr, is_some}
 use Rattle.std.specs.FinMap as map
-use Rattle.nt_core.specs.Dispatcher.{Dispatcher, state}
+use Rattle.nt_machine.specs.Dispatcher.{Dispatcher, state}
 use Rattle.std.proofs.lemmas.List.{length-replicate}
 use Rattle.nt_status.specs.declared.limits.TheConstants.{MAX_MOMENT, MAX_MANY_THREADS}
 use Rattle.nt_status.specs.declared.refusal.Refusal.{Refusal}

@@ -20,7 +20,7 @@ use Rattle.nt_calls.specs.State.{State, Pending, object_at}
 use Rattle.nt_calls.specs.Steps.{IsAwaited, Called}
 use Rattle.nt_core.specs.Renewals.{AddsVacant, CreatesAgain, DuplicatesAgain, Renews, begun_again, created_again, created_by, creation, creation_refusal, duplicate_refusal, is_closed, opened_again, thread_refusal}
 use Rattle.nt_core.specs.SetAside.{is_movable, set_aside}
-use Rattle.nt_core.proofs.Changing.{reading_created, reading_set}
+use Rattle.nt_machine.proofs.Changing.{reading_created, reading_set}
 use Rattle.nt_core.proofs.SettingAside.{MayMove, may_move, read_aside}
 use Rattle.nt_life.specs.Lasting.{Spares, AsideBeside, FindsNumber, MaySetAside, MovesAside, CreatesBeside, CreatesByTurn, CreatesElse, LastsAct, LastsCreation, LastsDuplicate, MakesCall, MayBegin, can_give_last, last_closed, last_unnamed}
 use Rattle.nt_life.specs.declared.begun.Begun.{Begun}

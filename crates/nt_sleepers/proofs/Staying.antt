@@ -22,9 +22,9 @@ use Rattle.nt_calls.specs.Serving.{fits, status, wait_granted, Grants, Alert, Ti
 use Rattle.nt_calls.specs.Change.{change, may_take, armed_anew, timer_set, expired, expired_as, all_expired}
 use Rattle.nt_calls.specs.Steps.{Called, Step, Ticked, MomentPasses, MomentsPass, after_serving, answered, begun, asked_wait}
 use Rattle.nt_calls.specs.Moves.{pended}
-use Rattle.nt_core.proofs.Remaining.{ends_waits}
-use Rattle.nt_core.proofs.Walks.{get_removed}
-use Rattle.nt_core.proofs.Alerting.{over_pending}
+use Rattle.nt_machine.proofs.Remaining.{ends_waits}
+use Rattle.nt_machine.proofs.Walks.{get_removed}
+use Rattle.nt_machine.proofs.Alerting.{over_pending}
 
 -- whatever pends by the one map pends so by the other
 abbrev IsWithin : Pending → Pending → Type 0

@@ -8,7 +8,7 @@ use Rattle.nt_waits.specs.declared.wait.Wait.{Wait}
 use Rattle.nt_calls.specs.declared.call.Grant.{Grant}
 use Rattle.nt_calls.specs.State.{State, pends}
 use Rattle.nt_calls.specs.Steps.{IsAwaited, IsNextMoment}
-use Rattle.nt_core.specs.Dispatcher.{Dispatcher, state}
+use Rattle.nt_machine.specs.Dispatcher.{Dispatcher, state}
 use Rattle.nt_life.specs.Lasting.{Spares}
 use Rattle.nt_sleepers.specs.declared.told.Told.{Told}
 

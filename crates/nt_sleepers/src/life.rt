@@ -4,7 +4,7 @@ ghost use Rattle.std.specs.FinMap as map;
 ghost use Rattle.nt_status.specs.declared.limits.TheConstants.{MAX_MANY_THREADS};
 ghost use Rattle.nt_marks.specs.Marks.{NoneMarked};
 ghost use Rattle.nt_calls.specs.State.{pends};
-ghost use Rattle.nt_core.specs.Dispatcher.{state};
+ghost use Rattle.nt_machine.specs.Dispatcher.{state};
 ghost use Rattle.nt_sleepers.specs.Sleepers.{IsCalledToLook, IsWatched, SleepsTo, TimeIsKept, time_out_of, set_if, settled, with_called, without_woken};
 
 use crate::keeping;

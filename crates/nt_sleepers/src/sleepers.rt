@@ -7,10 +7,10 @@ ghost use Rattle.nt_calls.specs.declared.call.WaitCall.{WaitCall};
 ghost use Rattle.nt_calls.specs.Moves.{pended};
 ghost use Rattle.nt_calls.specs.State.{opening};
 ghost use Rattle.nt_calls.specs.Steps.{Called, Ticked};
-ghost use Rattle.nt_core.specs.Accepts.{IsTickLocal};
+ghost use Rattle.nt_machine.specs.Accepts.{IsTickLocal};
 ghost use Rattle.nt_life.specs.Lasting.{MakesCall, FindsNoneFor, IsUnchanged, LooksAt, MayBegin, MaySetAside, GivesFromNow, no_spares};
-ghost use Rattle.nt_core.specs.Dispatcher.{state};
-ghost use Rattle.nt_core.specs.Lawful.{IsLawful};
+ghost use Rattle.nt_machine.specs.Dispatcher.{state};
+ghost use Rattle.nt_machine.specs.Lawful.{IsLawful};
 ghost use Rattle.nt_sleepers.specs.Sleepers.{LetsSleep, StopsSleeping, Watches, Woke, told_of};
 
 use crate::life::{is_idle, is_still, settle, settle_all, stop, watch};
@@ -35,7 +35,7 @@ pub struct Sleepers {
 impl Model for Sleepers {
     ghost use Rattle.std.specs.Coded.{codes};
     ghost use Rattle.nt_waits.specs.Waits.{waits_code};
-    ghost use Rattle.nt_core.specs.Dispatcher.{state};
+    ghost use Rattle.nt_machine.specs.Dispatcher.{state};
     ghost use Rattle.nt_sleepers.specs.Sleepers.{CalledWaits, Sleeping, TimeIsKept};
 
     ghost Value = { Sleeping };

@@ -1,7 +1,7 @@
 //! The plan over a front, by threads that run.
 ghost use Rattle.std.specs.Prelude.{◌≡◌, ◌+◌, ◌-◌, ◌*◌, ◌<◌, ◌≤◌, [], true, false, map, vec_len, vec_capacity, IfOk};
-ghost use Rattle.nt_core.specs.Dispatcher.{Dispatcher, state};
-ghost use Rattle.nt_core.specs.Lawful.{IsLawful};
+ghost use Rattle.nt_machine.specs.Dispatcher.{Dispatcher, state};
+ghost use Rattle.nt_machine.specs.Lawful.{IsLawful};
 ghost use Rattle.nt_front.specs.Runs.{IsRun};
 ghost use Rattle.nt_front.specs.Held.{knowledge_of};
 ghost use Rattle.nt_front.specs.Holds.{new_threads};

@@ -1,6 +1,6 @@
 //! Whether anything can end the waits, in words.
 ghost use Rattle.std.specs.Prelude.{◌≡◌, ◌++◌, take, decimal, codes, OnOk};
-ghost use Rattle.nt_core.specs.Dispatcher.{state};
+ghost use Rattle.nt_machine.specs.Dispatcher.{state};
 ghost use Rattle.nt_look.specs.Hangs.{marked};
 ghost use Rattle.nt_wording.specs.Verdicts.{code_of, knot_text, marks_in, members_text, next_text};
 ghost use Rattle.nt_wording.specs.Verdicts.{others_text, separator, verdict_text};

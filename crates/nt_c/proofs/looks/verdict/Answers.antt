@@ -1,5 +1,5 @@
 use Rattle.std.proofs.Common.{ℕ, sym, subst}
-use Rattle.nt_core.specs.Dispatcher.{state}
+use Rattle.nt_machine.specs.Dispatcher.{state}
 use Rattle.nt_calls.specs.Steps.{IsNextMoment}
 use Rattle.nt_c.proofs.looks.verdict.Goals as goal
 

@@ -2,7 +2,7 @@ use Rattle.std.proofs.Common.{◌≡◌, ◌≤◌, ◌⊎◌, ℕ, sym, subst, 
 use Rattle.std.proofs.lemmas.Bool.Decides.{nat_tests}
 use Rattle.std.specs.Prelude.{Bool, true, nat_le, Option, Some, MatchBool, MatchOption}
 use Rattle.nt_status.specs.declared.limits.TheConstants.{MAX_MOMENT}
-use Rattle.nt_core.specs.Dispatcher.{Dispatcher, state}
+use Rattle.nt_machine.specs.Dispatcher.{Dispatcher, state}
 use Rattle.nt_calls.specs.Steps.{IsNextMoment, NothingDue}
 use Rattle.nt_sleepers.specs.Sleepers.{Sleeping}
 use Rattle.nt_c.specs.declared.handle.Nt.{Nt}

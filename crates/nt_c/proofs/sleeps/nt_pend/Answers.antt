@@ -1,7 +1,7 @@
 use Rattle.std.proofs.Common.{◌≡◌, ℕ, false, Some, refl, ap, ◌∙◌, arith, Option, sym, subst}
 use Rattle.std.proofs.lemmas.Bool.Decides.{nat_tests}
 use Rattle.std.specs.Prelude.{nat_le}
-use Rattle.nt_core.specs.Dispatcher.{state}
+use Rattle.nt_machine.specs.Dispatcher.{state}
 use Rattle.nt_c.specs.Asks.{Untold}
 use Rattle.nt_c.specs.Sleeps.{Sleeps, MomentTold}
 use Rattle.nt_c.proofs.Threads.{asks_of}

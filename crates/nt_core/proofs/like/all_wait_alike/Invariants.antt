@@ -1,6 +1,6 @@
 use Rattle.std.proofs.Common.{◌≡◌, ◌<◌, ℕ}
 use Rattle.std.specs.FinMap as map
-use Rattle.nt_core.specs.Dispatcher.{state}
+use Rattle.nt_machine.specs.Dispatcher.{state}
 use Rattle.nt_core.proofs.like.all_wait_alike.Given as goal
 
 abbrev pub invariant-loop-thread : goal.invariant-loop-thread

@@ -1,6 +1,6 @@
 use Rattle.nt_calls.specs.declared.call.Call.{Call}
 use Rattle.nt_calls.specs.declared.call.WaitCall.{WaitCall}
-use Rattle.nt_core.specs.Dispatcher.{state}
+use Rattle.nt_machine.specs.Dispatcher.{state}
 use Rattle.nt_answers.proofs.Telling.{call_told}
 use Rattle.nt_core_calls.proofs.making.wait_for.Goals as goal
 

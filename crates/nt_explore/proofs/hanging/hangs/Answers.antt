@@ -1,6 +1,6 @@
 use Rattle.std.proofs.Common.{◌≡◌, Bool, List, refl, sym, subst, ◌∙◌, length}
 use Rattle.std.proofs.lemmas.Bool.{false≢true}
-use Rattle.nt_core.specs.Dispatcher.{state}
+use Rattle.nt_machine.specs.Dispatcher.{state}
 use Rattle.nt_look.specs.Hangs.{IsStuck, IsGreatestKnot, unmarked}
 use Rattle.nt_look.specs.Orders.{goes_on}
 use Rattle.nt_explore.specs.Walk.{point_at}

@@ -1,7 +1,7 @@
 use Rattle.std.proofs.Common.{◌≡◌, ◌≤◌, length}
 use Rattle.std.specs.Prelude.{slice_get}
 use Rattle.nt_apc.specs.Queues.{apc_queue_of}
-use Rattle.nt_core.specs.Dispatcher.{state}
+use Rattle.nt_machine.specs.Dispatcher.{state}
 use Rattle.nt_explore.specs.Hash.{folded, mixed_apc}
 use Rattle.nt_explore.proofs.hash.hash_of_apcs.Given as goal
 

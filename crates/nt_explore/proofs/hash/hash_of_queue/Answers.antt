@@ -1,5 +1,5 @@
 use Rattle.std.proofs.Common.{◌≡◌, ◌-◌, ◌+◌, ℕ, Option, Some, ap, sym, ◌∙◌, arith}
-use Rattle.nt_core.specs.Dispatcher.{state}
+use Rattle.nt_machine.specs.Dispatcher.{state}
 use Rattle.nt_explore.specs.Hash.{mixed_thread, mixed_queue}
 use Rattle.nt_explore.proofs.Queues.{next_stands}
 use Rattle.nt_explore.proofs.Hashes.{queue_on}

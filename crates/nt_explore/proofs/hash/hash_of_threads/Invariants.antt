@@ -1,5 +1,5 @@
 use Rattle.std.proofs.Common.{◌≡◌}
-use Rattle.nt_core.specs.Dispatcher.{state}
+use Rattle.nt_machine.specs.Dispatcher.{state}
 use Rattle.nt_explore.specs.Hash.{folded, mixed_one_thread}
 use Rattle.nt_explore.proofs.hash.hash_of_threads.Given as goal
 

@@ -1,4 +1,4 @@
-use Rattle.nt_core.specs.Dispatcher.{state}
+use Rattle.nt_machine.specs.Dispatcher.{state}
 use Rattle.nt_explore.proofs.Hung.{waiting_known}
 use Rattle.nt_explore.proofs.Losing.{row_none, row_more}
 use Rattle.nt_explore.proofs.loss.note_waits.Goals as goal

@@ -1,4 +1,4 @@
-use Rattle.nt_core.specs.Dispatcher.{state}
+use Rattle.nt_machine.specs.Dispatcher.{state}
 use Rattle.nt_explore.specs.Levels.{IsRow}
 use Rattle.nt_explore.proofs.loss.note_waits.Given as goal
 

@@ -1,5 +1,5 @@
 use Rattle.std.proofs.Common.{ℕ, List, subst, sym}
-use Rattle.nt_core.specs.Dispatcher.{state}
+use Rattle.nt_machine.specs.Dispatcher.{state}
 use Rattle.nt_explore.specs.Search.{beginning}
 use Rattle.nt_explore.specs.Walk.{Arrives}
 use Rattle.nt_explore.proofs.Ways.{if_ok}

@@ -1,5 +1,5 @@
 use Rattle.std.proofs.Common.{◌≡◌, ◌<◌, ◌∙◌, ◌≤◌, ◌+◌, ℕ, arith, List, length, subst, sym, ap, refl, None, inl, inr, ◌⊎◌}
-use Rattle.nt_core.specs.Dispatcher.{state}
+use Rattle.nt_machine.specs.Dispatcher.{state}
 use Rattle.nt_explore.specs.declared.met.Visit.{Visit}
 use Rattle.nt_explore.specs.Search.{beginning, CanGo, CountsTo, SumsTo}
 use Rattle.nt_explore.specs.Levels.{IsSearch, IsCounted, LiesAt, then_met}

@@ -1,5 +1,5 @@
 use Rattle.std.proofs.Common.{ℕ, ◌≤◌, ◌<◌, ◌-◌, ◌+◌, length}
-use Rattle.nt_core.specs.Dispatcher.{state}
+use Rattle.nt_machine.specs.Dispatcher.{state}
 use Rattle.nt_explore.specs.Search.{beginning, Learns}
 use Rattle.nt_explore.specs.Slots.{IsTable}
 use Rattle.nt_explore.specs.Levels.{IsCounted}

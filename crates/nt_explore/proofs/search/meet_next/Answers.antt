@@ -1,4 +1,4 @@
-use Rattle.nt_core.specs.Dispatcher.{state}
+use Rattle.nt_machine.specs.Dispatcher.{state}
 use Rattle.nt_explore.specs.Search.{beginning}
 use Rattle.nt_explore.specs.Walk.{point_of}
 use Rattle.nt_explore.proofs.Walks.{lane_met}

@@ -1,5 +1,5 @@
 use Rattle.std.proofs.Common.{ℕ, ◌∷◌, [], ◌++◌, Option, sym, ap, ◌∙◌, subst}
-use Rattle.nt_core.specs.Dispatcher.{state}
+use Rattle.nt_machine.specs.Dispatcher.{state}
 use Rattle.nt_life.specs.declared.renewal.Renewal.{Renewal}
 use Rattle.nt_life.specs.Renewals.{Tells}
 use Rattle.nt_answers.proofs.Telling.{call_told}

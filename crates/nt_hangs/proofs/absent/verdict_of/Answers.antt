@@ -1,6 +1,6 @@
 use Rattle.std.proofs.Common.{ℕ, MatchOption, subst}
 use Rattle.nt_calls.specs.Steps.{IsNextMoment, NothingDue}
-use Rattle.nt_core.specs.Dispatcher.{state}
+use Rattle.nt_machine.specs.Dispatcher.{state}
 use Rattle.nt_hangs.proofs.absent.verdict_of.Goals as goal
 
 pub returns-clause-next : goal.returns-clause-next

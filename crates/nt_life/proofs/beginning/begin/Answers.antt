@@ -2,7 +2,7 @@ use Rattle.nt_life.specs.Lasting.{last_closed}
 use Rattle.std.proofs.Common.{inr}
 use Rattle.std.proofs.Common.{◌∙◌, ◌++◌, ◌∷◌, [], ℕ, sym, ap}
 use Rattle.nt_calls.specs.declared.call.Reply.{Reply}
-use Rattle.nt_core.specs.Dispatcher.{state}
+use Rattle.nt_machine.specs.Dispatcher.{state}
 use Rattle.nt_core.specs.Renewals.{is_closed}
 use Rattle.nt_life.proofs.Times.{times_last}
 use Rattle.nt_life.proofs.Calls.{last_is_closed}

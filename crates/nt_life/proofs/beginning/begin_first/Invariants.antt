@@ -1,6 +1,6 @@
 use Rattle.std.proofs.Common.{◌≡◌, ◌<◌, ℕ, false}
-use Rattle.nt_core.specs.Dispatcher.{state}
-use Rattle.nt_core.specs.Lawful.{IsLawful}
+use Rattle.nt_machine.specs.Dispatcher.{state}
+use Rattle.nt_machine.specs.Lawful.{IsLawful}
 use Rattle.nt_core.specs.Renewals.{is_left}
 use Rattle.nt_life.proofs.beginning.begin_first.Given as goal
 

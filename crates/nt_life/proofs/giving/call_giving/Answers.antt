@@ -1,6 +1,6 @@
 use Rattle.std.proofs.Common.{Some, refl, sym, inl, subst}
 use Rattle.nt_calls.specs.declared.call.Call.{Call}
-use Rattle.nt_core.specs.Dispatcher.{state}
+use Rattle.nt_machine.specs.Dispatcher.{state}
 use Rattle.nt_life.specs.Lasting.{Lasts}
 use Rattle.nt_life.proofs.Calls.{call_spare, no_act_closes}
 use Rattle.nt_life.proofs.Limits.{refused_full}

@@ -6,8 +6,8 @@ use Rattle.nt_calls.specs.declared.call.Act.{Act}
 use Rattle.nt_calls.specs.declared.call.Call.{Call}
 use Rattle.nt_calls.specs.declared.call.Reply.{Reply}
 use Rattle.nt_calls.specs.Steps.{Called}
-use Rattle.nt_core.specs.Dispatcher.{Dispatcher, state}
-use Rattle.nt_core.specs.Lawful.{IsLawful}
+use Rattle.nt_machine.specs.Dispatcher.{Dispatcher, state}
+use Rattle.nt_machine.specs.Lawful.{IsLawful}
 use Rattle.nt_life.specs.Lasting.{is_unnamed}
 use Rattle.nt_life.proofs.Calls.{close_numbers, unopened_spare, closed_spare, closed_room, unnamed_room, found, missing, opened_there}
 use Rattle.nt_life.proofs.Stacking.{unopened_close, kept_same}

@@ -1,6 +1,6 @@
 use Rattle.std.proofs.Common.{◌≡◌, ◌∙◌, ℕ, List, get_or, refl, sym, ap, subst, None}
 use Rattle.std.proofs.lemmas.Bool.{true≢false}
-use Rattle.nt_core.specs.Dispatcher.{Dispatcher, state}
+use Rattle.nt_machine.specs.Dispatcher.{Dispatcher, state}
 use Rattle.nt_core.specs.Renewals.{CreatesAgain}
 use Rattle.nt_life.specs.Lasting.{Spares, CreatesElse, HasSpare, IsClosedLast, LeavesSpare, Pops, times}
 use Rattle.nt_life.proofs.Limits.{again_limit}

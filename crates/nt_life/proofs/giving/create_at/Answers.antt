@@ -2,7 +2,7 @@ use Rattle.std.proofs.Common.{rules}
 use Rattle.std.proofs.Common.{ℕ, ◌+◌, ◌==◌, ◌++◌, ◌∷◌, [], sym, ap, ◌∙◌, inl, inr, refl}
 use Rattle.std.specs.List.{swap_remove}
 use Rattle.nt_tables.proofs.Counting.{weight}
-use Rattle.nt_core.specs.Dispatcher.{state}
+use Rattle.nt_machine.specs.Dispatcher.{state}
 use Rattle.nt_life.specs.Lasting.{times}
 use Rattle.nt_life.proofs.Times.{times_taken, times_last}
 use Rattle.nt_life.proofs.Renewed.{created_spare}

@@ -6,7 +6,7 @@ use Rattle.std.specs.declared.result.Result.TheVariants.{Ok, Err}
 use Rattle.nt_status.specs.declared.refusal.Refusal.{Refusal}
 use Rattle.nt_status.specs.declared.refusal.Refusal.TheVariants.{HandleLimit}
 use Rattle.nt_calls.specs.declared.call.Reply.{Reply}
-use Rattle.nt_core.specs.Dispatcher.{state}
+use Rattle.nt_machine.specs.Dispatcher.{state}
 use Rattle.nt_core.specs.Renewals.{AddsVacant, CreatesAgain, is_closed}
 use Rattle.nt_life.proofs.Calls.{last_is_closed}
 use Rattle.nt_life.proofs.Limits.{again_limit, created_surely}

@@ -4,7 +4,7 @@ use Rattle.std.proofs.Common.{◌∙◌, ◌⊎◌, arith, sym, ap, subst, inl, 
 use Rattle.nt_calls.specs.declared.call.Call.{Call}
 use Rattle.nt_calls.specs.State.{State}
 use Rattle.nt_calls.specs.Steps.{Called}
-use Rattle.nt_core.specs.Dispatcher.{state}
+use Rattle.nt_machine.specs.Dispatcher.{state}
 use Rattle.nt_laws.specs.Laws.{call_closes}
 use Rattle.nt_life.specs.Lasting.{CreatesSpare, CreatesMore, NoHandle, NoObject}
 use Rattle.nt_life.proofs.Calls.{call_spare, creation_closes, none_closed}

@@ -3,7 +3,7 @@ use Rattle.nt_calls.specs.declared.call.Act.{Act}
 use Rattle.std.proofs.Common.{◌≡◌, ◌∙◌, Some, sym, ap, subst, inl, refl}
 use Rattle.nt_calls.specs.declared.call.Call.{Call}
 use Rattle.nt_calls.specs.Steps.{Called}
-use Rattle.nt_core.specs.Dispatcher.{state}
+use Rattle.nt_machine.specs.Dispatcher.{state}
 use Rattle.nt_laws.specs.Laws.{call_closes}
 use Rattle.nt_life.proofs.Calls.{call_spare, act_closes, creation_closes}
 use Rattle.nt_life.proofs.Limits.{refused_full}

@@ -1,5 +1,5 @@
 use Rattle.std.proofs.Common.{Option, refl, sym, subst}
-use Rattle.nt_core.specs.Dispatcher.{state}
+use Rattle.nt_machine.specs.Dispatcher.{state}
 use Rattle.nt_life.specs.Lasting.{Spares, Lasts}
 use Rattle.nt_life.proofs.Whole.{once_by, own_pace}
 use Rattle.nt_life.proofs.giving.make_call.Goals as goal

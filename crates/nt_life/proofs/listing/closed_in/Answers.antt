@@ -1,5 +1,5 @@
 use Rattle.std.proofs.Common.{◌≡◌, ◌+◌, ℕ, refl, sym, ap, ◌∙◌, arith}
-use Rattle.nt_core.specs.Dispatcher.{state}
+use Rattle.nt_machine.specs.Dispatcher.{state}
 use Rattle.nt_core.specs.Renewals.{is_closed}
 use Rattle.nt_life.proofs.Gathering.{more_listed, as_listed, listed_all, closed_below}
 use Rattle.nt_life.proofs.listing.closed_in.Goals as goal

@@ -1,4 +1,4 @@
-use Rattle.nt_core.specs.Dispatcher.{state}
+use Rattle.nt_machine.specs.Dispatcher.{state}
 use Rattle.nt_core.specs.Renewals.{is_closed}
 use Rattle.nt_life.proofs.Gathering.{IsListed}
 use Rattle.nt_life.proofs.listing.closed_in.Given as goal

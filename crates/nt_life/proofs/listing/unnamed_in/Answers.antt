@@ -1,5 +1,5 @@
 use Rattle.std.proofs.Common.{◌≡◌, ◌+◌, ℕ, refl, sym, ap, ◌∙◌, arith, length}
-use Rattle.nt_core.specs.Dispatcher.{state}
+use Rattle.nt_machine.specs.Dispatcher.{state}
 use Rattle.nt_life.specs.Lasting.{is_unnamed}
 use Rattle.nt_life.proofs.Gathering.{more_listed, as_listed, listed_all, unnamed_below}
 use Rattle.nt_life.proofs.listing.unnamed_in.Goals as goal

@@ -1,4 +1,4 @@
-use Rattle.nt_core.specs.Dispatcher.{state}
+use Rattle.nt_machine.specs.Dispatcher.{state}
 use Rattle.nt_life.specs.Lasting.{is_unnamed}
 use Rattle.nt_life.proofs.Gathering.{IsListed}
 use Rattle.nt_life.proofs.listing.unnamed_in.Given as goal

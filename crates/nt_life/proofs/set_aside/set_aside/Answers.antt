@@ -7,7 +7,7 @@ use Rattle.nt_status.specs.declared.refusal.Refusal.TheVariants.{InvalidHandle}
 use Rattle.nt_calls.specs.declared.call.Grant.{Grant}
 use Rattle.nt_calls.specs.State.{State}
 use Rattle.std.proofs.Common.{List}
-use Rattle.nt_core.specs.Dispatcher.{state}
+use Rattle.nt_machine.specs.Dispatcher.{state}
 use Rattle.nt_core.specs.Renewals.{is_vacant}
 use Rattle.nt_core.specs.SetAside.{is_movable}
 use Rattle.nt_life.specs.Lasting.{MovesAside, FindsNumber, SetsAsideSpare}

@@ -2,7 +2,7 @@ use Rattle.std.proofs.Common.{◌≡◌, ℕ, Bool, true, ◌+◌, ◌==◌, ◌
 use Rattle.std.specs.List.{swap_remove}
 use Rattle.std.specs.declared.result.Result.TheVariants.{Ok}
 use Rattle.nt_tables.proofs.Counting.{weight}
-use Rattle.nt_core.specs.Dispatcher.{state}
+use Rattle.nt_machine.specs.Dispatcher.{state}
 use Rattle.nt_core.specs.Renewals.{is_vacant}
 use Rattle.nt_core.specs.SetAside.{SetsAside}
 use Rattle.nt_life.specs.Lasting.{times, MovesAside}

@@ -1,5 +1,5 @@
 use Rattle.std.proofs.Common.{List, Bool, subst}
-use Rattle.nt_core.specs.Dispatcher.{state}
+use Rattle.nt_machine.specs.Dispatcher.{state}
 use Rattle.nt_look.specs.Deciding.{IsUntied}
 use Rattle.nt_look.proofs.Loosening.{fewer_marks, one_free}
 use Rattle.nt_look.proofs.knot.greatest_knot.Goals as goal

@@ -1,4 +1,4 @@
-use Rattle.nt_core.specs.Dispatcher.{state}
+use Rattle.nt_machine.specs.Dispatcher.{state}
 use Rattle.nt_look.proofs.Loosening.{HasAllKnots, left_marked}
 use Rattle.nt_look.proofs.knot.greatest_knot.Given as goal
 

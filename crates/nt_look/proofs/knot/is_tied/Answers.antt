@@ -1,5 +1,5 @@
 use Rattle.std.proofs.Common.{rules, ◌≡◌, sym}
-use Rattle.nt_core.specs.Dispatcher.{state}
+use Rattle.nt_machine.specs.Dispatcher.{state}
 use Rattle.nt_look.specs.Hangs.{marked}
 use Rattle.nt_look.specs.Deciding.{is_bound}
 use Rattle.nt_look.proofs.Deciding.{tied_waiting}

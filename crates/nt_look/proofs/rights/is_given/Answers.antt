@@ -1,5 +1,5 @@
 use Rattle.std.proofs.Common.{rules, ◌≡◌, true, sym, ◌∙◌}
-use Rattle.nt_core.specs.Dispatcher.{state}
+use Rattle.nt_machine.specs.Dispatcher.{state}
 use Rattle.nt_tables.specs.Handles.{opened_at}
 use Rattle.nt_look.specs.Hangs.{gives}
 use Rattle.nt_look.proofs.Allowing.{given_by}

@@ -1,6 +1,6 @@
 use Rattle.std.proofs.Common.{rules, ◌≡◌, ◌≤◌, ◌+◌, true, false, sym, arith, length}
 use Rattle.std.proofs.lemmas.Bool.Decides.{nat_tests}
-use Rattle.nt_core.specs.Dispatcher.{state}
+use Rattle.nt_machine.specs.Dispatcher.{state}
 use Rattle.nt_tables.specs.Handles.{names, opened_at}
 use Rattle.nt_look.specs.Hangs.{gives}
 use Rattle.nt_look.proofs.Allowing.{search_begins, search_goes, search_ends, search_passed}

@@ -1,5 +1,5 @@
 use Rattle.nt_look.proofs.Allowing.{IsSearched}
-use Rattle.nt_core.specs.Dispatcher.{state}
+use Rattle.nt_machine.specs.Dispatcher.{state}
 use Rattle.nt_look.proofs.rights.is_given_by_one.Given as goal
 
 abbrev pub invariant-loop-number : goal.invariant-loop-number

@@ -1,5 +1,5 @@
 use Rattle.std.proofs.Common.{rules, ◌≡◌, sym}
-use Rattle.nt_core.specs.Dispatcher.{state}
+use Rattle.nt_machine.specs.Dispatcher.{state}
 use Rattle.nt_look.specs.Deciding.{ends_by_time}
 use Rattle.nt_look.proofs.Deciding.{hangs_waiting}
 use Rattle.nt_look.proofs.stuck.is_hanging.Goals as goal

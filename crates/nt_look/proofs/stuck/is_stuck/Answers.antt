@@ -1,5 +1,5 @@
 use Rattle.std.proofs.Common.{rules, refl}
-use Rattle.nt_core.specs.Dispatcher.{state}
+use Rattle.nt_machine.specs.Dispatcher.{state}
 use Rattle.nt_look.proofs.Deciding.{one_more, all_hang, HangBelow}
 use Rattle.nt_look.proofs.stuck.is_stuck.Goals as goal
 

@@ -1,5 +1,5 @@
 use Rattle.std.proofs.Common.{◌≡◌, ◌<◌, ◌&&◌, ℕ, vec_len}
-use Rattle.nt_core.specs.Dispatcher.{state}
+use Rattle.nt_machine.specs.Dispatcher.{state}
 use Rattle.nt_calls.specs.State.{pends}
 use Rattle.nt_look.specs.Hangs.{marked}
 use Rattle.nt_orders.proofs.hang.waiting_in.Given as goal

@@ -1,5 +1,5 @@
 use Rattle.std.proofs.Common.{ℕ, List, subst}
-use Rattle.nt_core.specs.Dispatcher.{state}
+use Rattle.nt_machine.specs.Dispatcher.{state}
 use Rattle.nt_orders.specs.Plans.{IsPlanOf}
 use Rattle.nt_orders.specs.Reading.{lanes_of}
 use Rattle.nt_orders.proofs.report.report_on.Goals as goal

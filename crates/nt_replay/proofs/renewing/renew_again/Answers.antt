@@ -1,5 +1,5 @@
 use Rattle.std.proofs.Common.{sym, subst, ◌∙◌, ℕ}
-use Rattle.nt_core.specs.Dispatcher.{state}
+use Rattle.nt_machine.specs.Dispatcher.{state}
 use Rattle.nt_core.specs.Renewals.{CreatesAgain, DuplicatesAgain, BeginsAgain}
 use Rattle.nt_life.specs.declared.renewal.Renewal.{Renewal}
 use Rattle.nt_life.specs.declared.renewal.Renewal.TheVariants.{CreateAdded, Unadded}

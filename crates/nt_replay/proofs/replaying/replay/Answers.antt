@@ -1,4 +1,4 @@
-use Rattle.nt_core.specs.Dispatcher.{state}
+use Rattle.nt_machine.specs.Dispatcher.{state}
 use Rattle.nt_mail.proofs.Lives.{life_is_run}
 use Rattle.nt_replay.proofs.replaying.replay.Goals as goal
 

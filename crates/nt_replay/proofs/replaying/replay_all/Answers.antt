@@ -1,6 +1,6 @@
 use Rattle.std.proofs.Common.{List, length, ◌<◌, subst}
 use Rattle.nt_calls.specs.declared.call.Grant.{Grant}
-use Rattle.nt_core.specs.Dispatcher.{state}
+use Rattle.nt_machine.specs.Dispatcher.{state}
 use Rattle.nt_replay.proofs.Comparing.{grants_lacking_at}
 use Rattle.nt_replay.proofs.replaying.replay_all.Goals as goal
 

@@ -1,5 +1,5 @@
 use Rattle.std.proofs.Common.{take}
-use Rattle.nt_core.specs.Dispatcher.{state}
+use Rattle.nt_machine.specs.Dispatcher.{state}
 use Rattle.nt_replay.specs.Replays.{AreReplayed}
 use Rattle.nt_replay.proofs.replaying.replay_all.Given as goal
 

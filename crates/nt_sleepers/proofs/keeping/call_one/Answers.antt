@@ -1,5 +1,5 @@
 use Rattle.std.proofs.Common.{ℕ, List, Option, sym, subst}
-use Rattle.nt_core.specs.Dispatcher.{state}
+use Rattle.nt_machine.specs.Dispatcher.{state}
 use Rattle.nt_sleepers.specs.Sleepers.{IsWatched, SleepsUpTo}
 use Rattle.nt_sleepers.proofs.Kept.{in_time_idle, in_time_soon, in_time_called}
 use Rattle.nt_sleepers.proofs.keeping.call_one.Goals as goal

@@ -1,5 +1,5 @@
 use Rattle.std.proofs.Common.{ℕ, subst}
-use Rattle.nt_core.specs.Dispatcher.{state}
+use Rattle.nt_machine.specs.Dispatcher.{state}
 use Rattle.nt_sleepers.specs.Sleepers.{SleepsUpTo}
 use Rattle.nt_sleepers.proofs.Kept.{short_idle, short_by_another, short_itself}
 use Rattle.nt_sleepers.proofs.keeping.moment_beside.Goals as goal

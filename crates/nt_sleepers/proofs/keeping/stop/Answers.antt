@@ -1,5 +1,5 @@
 use Rattle.std.proofs.Common.{ℕ, List, Option, ap, ◌∙◌, subst}
-use Rattle.nt_core.specs.Dispatcher.{state}
+use Rattle.nt_machine.specs.Dispatcher.{state}
 use Rattle.nt_sleepers.specs.Sleepers.{IsCalledToLook, with_called}
 use Rattle.nt_sleepers.proofs.Kept.{kept_stop}
 use Rattle.nt_sleepers.proofs.keeping.stop.Goals as goal

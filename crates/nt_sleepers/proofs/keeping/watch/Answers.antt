@@ -4,7 +4,7 @@ use Rattle.std.proofs.lemmas.List.{set-set}
 use Rattle.std.specs.Prelude.{is_some}
 use Rattle.std.specs.Option.{option_copied}
 use Rattle.nt_calls.specs.State.{pends}
-use Rattle.nt_core.specs.Dispatcher.{state}
+use Rattle.nt_machine.specs.Dispatcher.{state}
 use Rattle.nt_sleepers.specs.Sleepers.{IsShortEnough, SleepsTo, time_out_of, set_if}
 use Rattle.nt_sleepers.proofs.Kept.{kept_watch}
 use Rattle.nt_sleepers.proofs.keeping.watch.Goals as goal

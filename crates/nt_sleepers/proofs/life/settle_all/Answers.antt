@@ -1,5 +1,5 @@
 use Rattle.std.proofs.Common.{subst}
-use Rattle.nt_core.specs.Dispatcher.{Dispatcher, state}
+use Rattle.nt_machine.specs.Dispatcher.{Dispatcher, state}
 use Rattle.nt_sleepers.specs.Sleepers.{IsWatched}
 use Rattle.nt_sleepers.proofs.life.settle_all.Goals as goal
 

@@ -1,6 +1,6 @@
 use Rattle.std.proofs.Common.{subst}
 use Rattle.std.specs.FinMap as map
-use Rattle.nt_core.specs.Dispatcher.{Dispatcher, state}
+use Rattle.nt_machine.specs.Dispatcher.{Dispatcher, state}
 use Rattle.nt_sleepers.specs.Sleepers.{SleepsTo, time_out_of}
 use Rattle.nt_sleepers.proofs.life.watch.Goals as goal
 

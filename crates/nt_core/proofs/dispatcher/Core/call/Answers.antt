@@ -1,4 +1,4 @@
-use Rattle.nt_core.specs.Dispatcher.{state}
+use Rattle.nt_machine.specs.Dispatcher.{state}
 use Rattle.nt_core.proofs.Counting.{called_most, called_few}
 use Rattle.nt_core.proofs.Moves.{call_moves, call_waits, only_waits_pend}
 use Rattle.nt_core.proofs.dispatcher.Core.call.Goals as goal

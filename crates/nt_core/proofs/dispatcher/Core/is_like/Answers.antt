@@ -1,6 +1,6 @@
 use Rattle.std.proofs.Common.{arith, sym, subst, ◌≡◌, ◌∙◌}
 use Rattle.std.proofs.lemmas.Bool.Decides.{nat_tests}
-use Rattle.nt_core.specs.Dispatcher.{Dispatcher}
+use Rattle.nt_machine.specs.Dispatcher.{Dispatcher}
 use Rattle.nt_core.specs.Alike.{AreAlike}
 use Rattle.nt_core.proofs.LikeLemmas.{state_alike, alike_parts}
 use Rattle.nt_core.proofs.dispatcher.Core.is_like.Goals as goal

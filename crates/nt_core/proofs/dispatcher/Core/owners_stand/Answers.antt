@@ -1,8 +1,8 @@
 -- the lists of owned mutexes are as many as the threads
 use Rattle.std.proofs.Common.{◌≡◌, length, subst}
 use Rattle.nt_core.specs.declared.dispatcher.Core.TheInside.{Inside}
-use Rattle.nt_core.specs.Dispatcher.{Dispatcher}
-use Rattle.nt_core.specs.Lawful.{IsLawful}
+use Rattle.nt_machine.specs.Dispatcher.{Dispatcher}
+use Rattle.nt_machine.specs.Lawful.{IsLawful}
 use Rattle.nt_core.proofs.OwnersKnown.{owner_known}
 use Rattle.nt_core.proofs.dispatcher.Core.owners_stand.Goals as goal
 

@@ -1,6 +1,6 @@
 use Rattle.nt_calls.specs.declared.call.Call.{Call}
 use Rattle.nt_calls.specs.declared.call.WaitCall.{WaitCall}
-use Rattle.nt_core.specs.Dispatcher.{state}
+use Rattle.nt_machine.specs.Dispatcher.{state}
 use Rattle.nt_core.proofs.Counting.{called_most, called_few}
 use Rattle.nt_core.proofs.Moves.{call_moves, call_waits}
 use Rattle.nt_core.proofs.dispatcher.Core.wait_objects.Goals as goal

@@ -5,9 +5,9 @@ use Rattle.std.specs.Prelude.{is_some}
 use Rattle.std.specs.FinMap as map
 use Rattle.nt_waits.specs.declared.wait.Wait.{Wait}
 use Rattle.nt_core.specs.declared.dispatcher.Core.TheInside.{Inside}
-use Rattle.nt_core.specs.Dispatcher.{Dispatcher}
-use Rattle.nt_core.specs.Lawful.{IsLawful}
-use Rattle.nt_core.proofs.Beginning.{nobody_beyond}
+use Rattle.nt_machine.specs.Dispatcher.{Dispatcher}
+use Rattle.nt_machine.specs.Lawful.{IsLawful}
+use Rattle.nt_machine.proofs.Beginning.{nobody_beyond}
 use Rattle.nt_core.proofs.dispatcher.Core.waits_for.Goals as goal
 
 none_of : (o : Option Wait) → is_some o ≡ false → None ≡ o

@@ -1,5 +1,5 @@
 use Rattle.std.proofs.Common.{List, ℕ, length, sym, subst, ap, ◌∙◌}
-use Rattle.nt_core.specs.Dispatcher.{state}
+use Rattle.nt_machine.specs.Dispatcher.{state}
 use Rattle.nt_explore.specs.declared.met.Visit.{Visit}
 use Rattle.nt_explore.specs.Hash.{hash_of}
 use Rattle.nt_explore.specs.Slots.{AreInSlots}

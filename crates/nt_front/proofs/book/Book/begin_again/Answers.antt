@@ -3,7 +3,7 @@ use Rattle.std.specs.Prelude.{MatchOption}
 use Rattle.std.proofs.lemmas.List.{append-nil}
 use Rattle.nt_calls.specs.declared.call.Reply.{Reply}
 use Rattle.nt_calls.specs.State.{pends}
-use Rattle.nt_core.specs.Dispatcher.{Dispatcher as Core, state}
+use Rattle.nt_machine.specs.Dispatcher.{Dispatcher as Core, state}
 use Rattle.nt_core.specs.Renewals.{is_left, BeginsAgain}
 use Rattle.nt_life.specs.Lasting.{MayBeginThis}
 use Rattle.nt_life.specs.declared.renewal.Renewal.TheVariants.{Begin}

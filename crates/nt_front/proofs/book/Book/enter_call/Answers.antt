@@ -5,7 +5,7 @@ use Rattle.atomic_table.specs.Seated.{TableId}
 use Rattle.nt_calls.specs.declared.call.Grant.{Grant}
 use Rattle.nt_calls.specs.Moves.{one_if, pended}
 use Rattle.nt_calls.specs.State.{pends}
-use Rattle.nt_core.specs.Dispatcher.{Dispatcher as Core, state}
+use Rattle.nt_machine.specs.Dispatcher.{Dispatcher as Core, state}
 use Rattle.std.specs.Prelude.{◌&&◌, is_err}
 use Rattle.nt_mail.specs.declared.entry.Entry.{Entry}
 use Rattle.nt_mail.specs.declared.knowledge.Asked.{Asked}

@@ -2,7 +2,7 @@ use Rattle.std.proofs.Common.{◌≡◌, ◌+◌, ◌-◌, ℕ, List, ◌∷◌,
 use Rattle.atomic_table.specs.Seated.{TableId}
 use Rattle.nt_calls.specs.declared.call.Grant.{Grant}
 use Rattle.nt_calls.specs.State.{pends}
-use Rattle.nt_core.specs.Dispatcher.{Dispatcher as Core, state}
+use Rattle.nt_machine.specs.Dispatcher.{Dispatcher as Core, state}
 use Rattle.std.specs.FinMap.{len}
 use Rattle.std.specs.Prelude.{is_some}
 use Rattle.nt_mail.specs.declared.entry.Entry.{Entry}

@@ -1,5 +1,5 @@
 use Rattle.std.proofs.Common.{sym, subst}
-use Rattle.nt_core.specs.Dispatcher.{state}
+use Rattle.nt_machine.specs.Dispatcher.{state}
 use Rattle.nt_life.specs.Lasting.{WithSpare, KeepsLimits, MayKeepOrder}
 use Rattle.nt_life.proofs.Once.{own_call}
 use Rattle.nt_life.proofs.Turning.{own_order}

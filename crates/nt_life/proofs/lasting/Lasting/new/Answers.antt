@@ -7,7 +7,7 @@ use Rattle.nt_status.specs.declared.limits.TheConstants.{MAX_MANY_THREADS}
 use Rattle.nt_status.specs.declared.refusal.Refusal.{Refusal}
 use Rattle.nt_status.specs.declared.refusal.Refusal.TheVariants.{InvalidParameter, Memory}
 use Rattle.nt_calls.specs.State.{State, opening}
-use Rattle.nt_core.specs.Dispatcher.{state}
+use Rattle.nt_machine.specs.Dispatcher.{state}
 use Rattle.nt_life.specs.Lasting.{Spares, IsSpare, times}
 use Rattle.nt_life.proofs.Renewed.{opening_spare}
 use Rattle.nt_life.proofs.lasting.Lasting.new.Goals as goal

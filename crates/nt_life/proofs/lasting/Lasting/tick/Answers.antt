@@ -1,6 +1,6 @@
 use Rattle.std.proofs.Common.{false, subst}
 use Rattle.nt_calls.specs.Moves.{Moves}
-use Rattle.nt_core.specs.Dispatcher.{state}
+use Rattle.nt_machine.specs.Dispatcher.{state}
 use Rattle.nt_laws.proofs.Numbers.{tick_numbers}
 use Rattle.nt_life.proofs.Once.{may_spare_same}
 use Rattle.nt_life.specs.Lasting.{WithSpare}

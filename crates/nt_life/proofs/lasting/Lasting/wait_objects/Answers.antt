@@ -1,7 +1,7 @@
 use Rattle.std.proofs.Common.{refl, subst}
 use Rattle.nt_calls.specs.declared.call.Call.{Call}
 use Rattle.nt_calls.specs.declared.call.WaitCall.{WaitCall}
-use Rattle.nt_core.specs.Dispatcher.{state}
+use Rattle.nt_machine.specs.Dispatcher.{state}
 use Rattle.nt_life.specs.Lasting.{WithSpare, KeepsPace, LooksAt}
 use Rattle.nt_life.proofs.Once.{call_may_spare}
 use Rattle.nt_life.proofs.lasting.Lasting.wait_objects.Goals as goal

@@ -1,5 +1,5 @@
 use Rattle.std.proofs.Common.{◌≡◌, ◌∙◌, ◌++◌, codes, ap, length, arith, length-append, List, ℕ}
-use Rattle.nt_core.specs.Dispatcher.{state}
+use Rattle.nt_machine.specs.Dispatcher.{state}
 use Rattle.nt_script.specs.Transcript.{waiting_text}
 use Rattle.nt_script.proofs.Texts.{end_of_none, end_of_some}
 use Rattle.nt_script.proofs.session.Session.put_end.Goals as goal

@@ -1,4 +1,4 @@
-use Rattle.nt_core.specs.Dispatcher.{state}
+use Rattle.nt_machine.specs.Dispatcher.{state}
 use Rattle.nt_sleepers.proofs.Renewing.{kept_begun}
 use Rattle.nt_sleepers.proofs.sleepers.Sleepers.begin.Goals as goal
 

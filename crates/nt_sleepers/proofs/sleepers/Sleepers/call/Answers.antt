@@ -1,6 +1,6 @@
 use Rattle.std.proofs.Common.{refl, ℕ, Bool, Option, ap, sym, subst}
 use Rattle.nt_calls.specs.Moves.{Moves, pended}
-use Rattle.nt_core.specs.Dispatcher.{state}
+use Rattle.nt_machine.specs.Dispatcher.{state}
 use Rattle.std.specs.FinMap.{get}
 use Rattle.nt_sleepers.specs.Sleepers.{Sleeping, CalledWaits, time_out_of, settled}
 use Rattle.nt_sleepers.proofs.Staying.{StayedOrBegan}

@@ -1,6 +1,6 @@
 use Rattle.std.proofs.Common.{ap}
 use Rattle.nt_calls.specs.State.{State}
-use Rattle.nt_core.specs.Dispatcher.{state}
+use Rattle.nt_machine.specs.Dispatcher.{state}
 use Rattle.nt_sleepers.proofs.Kept.{kept_first}
 use Rattle.nt_sleepers.proofs.sleepers.Sleepers.lasting.Goals as goal
 

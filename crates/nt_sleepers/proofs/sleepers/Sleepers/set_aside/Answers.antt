@@ -1,4 +1,4 @@
-use Rattle.nt_core.specs.Dispatcher.{state}
+use Rattle.nt_machine.specs.Dispatcher.{state}
 use Rattle.nt_sleepers.proofs.Renewing.{kept_aside}
 use Rattle.nt_sleepers.proofs.sleepers.Sleepers.set_aside.Goals as goal
 

@@ -1,7 +1,7 @@
 use Rattle.std.proofs.Common.{◌≤◌, length, arith}
 use Rattle.std.specs.FinMap as map
 use Rattle.std.specs.Prelude.{false, None}
-use Rattle.nt_core.specs.Dispatcher.{state}
+use Rattle.nt_machine.specs.Dispatcher.{state}
 use Rattle.nt_sleepers.specs.Sleepers.{settled}
 use Rattle.nt_sleepers.proofs.Staying.{tick_stayed}
 use Rattle.nt_sleepers.proofs.Kept.{idle, kept_after, called_waits, nobody_by_tick}

@@ -2,7 +2,7 @@ use Rattle.std.proofs.Common.{refl, Bool, sym, subst}
 use Rattle.nt_calls.specs.declared.call.Call.{Call}
 use Rattle.nt_calls.specs.declared.call.WaitCall.{WaitCall}
 use Rattle.nt_calls.specs.Moves.{Moves}
-use Rattle.nt_core.specs.Dispatcher.{state}
+use Rattle.nt_machine.specs.Dispatcher.{state}
 use Rattle.std.specs.FinMap.{get}
 use Rattle.nt_sleepers.specs.Sleepers.{time_out_of, settled}
 use Rattle.nt_sleepers.proofs.Staying.{StayedOrBegan, call_stayed}
