@@ -56,6 +56,7 @@ NTW_VARIABLE struct journal journal;
 
 NTW_INTERNAL void begin_quiet(struct quiet *it);
 NTW_INTERNAL void end_quiet(struct quiet *it);
+NTW_INTERNAL int beyond_streams(int file);
 NTW_INTERNAL char *put_text(char *at, const char *text);
 NTW_INTERNAL char *put_number(char *at, uint64_t number);
 NTW_INTERNAL char *put_signed(char *at, int64_t number);

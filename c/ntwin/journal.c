@@ -29,6 +29,17 @@ NTW_INTERNAL void end_quiet(struct quiet *it)
     pthread_sigmask(SIG_SETMASK, &it->before, NULL);
 }
 
+/* The same file by a number beyond those of the standard streams. (A program may begin with one of them closed, and writes there all the same.) */
+NTW_INTERNAL int beyond_streams(int file)
+{
+    if (file < 0 || file > STDERR_FILENO)
+        return file;
+    const int beyond = fcntl(file, F_DUPFD_CLOEXEC, STDERR_FILENO + 1), error = errno;
+    close(file);
+    errno = error;
+    return beyond;
+}
+
 /* ---- Lines. Each begins as a comment, and has its first letter once it is whole: so one that is broken off is no call. */
 
 NTW_INLINE char *put_text(char *at, const char *text)
@@ -222,7 +233,7 @@ static bool takes_file(void)
 /* Begins a journal in this file, before the first call. Answers 0, or the system's error. */
 NTW_INTERNAL int open_journal(const char *path)
 {
-    journal.file = open(path, O_RDWR | O_CREAT | O_CLOEXEC, 0666);
+    journal.file = beyond_streams(open(path, O_RDWR | O_CREAT | O_CLOEXEC, 0666));
     if (journal.file < 0)
         return errno;
     int error = takes_file() ? posix_fallocate(journal.file, 0, JOURNAL_STEP) : errno;

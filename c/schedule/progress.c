@@ -16,7 +16,7 @@ NTW_INTERNAL void begin_progress(void)
     progress.began = real_ns();
     progress.next = progress.began + 1000000000;
     if (schedule.progress[0] != 0)
-        progress.file = open(schedule.progress, O_WRONLY | O_CREAT | O_CLOEXEC, 0666);
+        progress.file = beyond_streams(open(schedule.progress, O_WRONLY | O_CREAT | O_CLOEXEC, 0666));
 }
 
 /* Tells it, where a second has passed since that was done: how many runs, the steps of the longest, and the share of all that is done. */

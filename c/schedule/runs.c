@@ -185,7 +185,7 @@ NTW_INTERNAL void begin_making(void)
     sigset_t ends;
     const struct sigaction usual = { .sa_handler = SIG_DFL };
     maker.id = getpid();
-    maker.output = memfd_create("output", MFD_CLOEXEC);
+    maker.output = beyond_streams(memfd_create("output", MFD_CLOEXEC));
     if (maker.output < 0)
         refuse("ntwin: NTWIN_SCHEDULE: no file for what runs write: %s", strerror(errno));
     sigaction(SIGCHLD, &usual, &maker.at_child);

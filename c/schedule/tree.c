@@ -234,7 +234,7 @@ static void explore_bound(struct exploration *search, uint32_t bound)
 /* Where the ends of runs are written. Less than 0 where that was not asked for. */
 static int open_ends(void)
 {
-    const int ends = schedule.ends[0] != 0 ? open(schedule.ends, O_WRONLY | O_CREAT | O_TRUNC | O_CLOEXEC, 0666) : -1;
+    const int ends = schedule.ends[0] != 0 ? beyond_streams(open(schedule.ends, O_WRONLY | O_CREAT | O_TRUNC | O_CLOEXEC, 0666)) : -1;
     if (schedule.ends[0] != 0 && ends < 0)
         refuse("ntwin: NTWIN_SCHEDULE: %s: %s", schedule.ends, strerror(errno));
     return ends;

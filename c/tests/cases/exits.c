@@ -108,6 +108,30 @@ int case_last_thread(int count, char **words)
     pthread_exit(NULL);
 }
 
+/* journal_beside_output. Within 10 s: threads 256.
+ *
+ * A program begins with its standard output closed, and writes there: that goes to no file of the library's. */
+
+int case_journal_beside_output(int count, char **words)
+{
+    char path[] = "/tmp/journal_beside_output_XXXXXX", line[64] = "";
+    if (count > 1) {
+        must(CreateEvent(NULL, TRUE, FALSE, NULL) != NULL);
+        return puts("not for the journal") < 0;
+    }
+    const int file = mkstemp(path);
+    must(file >= 0 && setenv("NTWIN_JOURNAL", path, 1) == 0);
+    const pid_t child = fork();
+    if (child == 0) {
+        close(STDOUT_FILENO);
+        execl("/proc/self/exe", words[0], "again", (char *)NULL);
+        _exit(2);
+    }
+    must(child > 0 && waitpid(child, NULL, 0) == child && read(file, line, sizeof line - 1) > 0 && unlink(path) == 0);
+    printf("%.*s\n", (int)strcspn(line, "\n"), line);
+    return 0;
+}
+
 /* left_for_good. Within 10 s, unsanitized: 10 passed, 0 failed.
  *
  * A thread has left for the library in the last but one round of its destructors: a call in the last round is refused, and does not join it again as
