@@ -55,7 +55,8 @@ NTW_INTERNAL int hooked_select(int count, fd_set *reads, fd_set *writes, fd_set 
     if (count < 0 || count > FD_SETSIZE || (time != NULL && (time->tv_sec < 0 || time->tv_usec < 0)) || !comes_from_program())
         return real.select(count, reads, writes, others, time);
     struct timeval none = { 0, 0 };
-    const uint64_t until = time == NULL ? NEVER : schedule.now + (uint64_t)time->tv_sec * MOMENTS_PER_SECOND + (uint64_t)time->tv_usec * 10;
+    const uint64_t seconds = time == NULL ? NEVER : moment_in(&(struct timespec){ .tv_sec = time->tv_sec });
+    const uint64_t until = seconds == NEVER ? NEVER : seconds + (uint64_t)time->tv_usec * 10;
     wait_for_files("select", files, files_of(files, count, reads, writes, others), until, __builtin_return_address(0));
     return real.select(count, reads, writes, others, &none);
 }

@@ -177,8 +177,9 @@ NTW_INTERNAL long hooked_syscall(long number, ...)
     va_end(rest);
     const int operation = number == SYS_futex ? (int)with[1] & FUTEX_CMD_MASK : -1;
     const bool waits = operation == FUTEX_WAIT || operation == FUTEX_WAIT_BITSET;
-    const bool has_time = with[3] == 0 || is_time((const struct timespec *)with[3]);
-    if ((!(waits && has_time) && operation != FUTEX_WAKE && operation != FUTEX_WAKE_BITSET) || !comes_to((const void *)with[0]))
+    /* (Of another call the fourth number may be anything.) */
+    const bool has_time = waits && (with[3] == 0 || is_time((const struct timespec *)with[3]));
+    if ((!has_time && operation != FUTEX_WAKE && operation != FUTEX_WAKE_BITSET) || !comes_to((const void *)with[0]))
         return call_system(number, with);
     if (waits)
         return wait_on_word(__builtin_return_address(0), with);

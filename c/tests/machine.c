@@ -1,9 +1,11 @@
 /* The machine, memory and text: what each call answers with its last error. The values are those of Microsoft's pages and docs/WIN32.md. */
+#define _GNU_SOURCE /* (for time zones) */
 #include <windows.h>
 
 #include <errno.h>
 #include <malloc.h>
 #include <sys/timeb.h>
+#include <time.h>
 
 #include "check.h"
 
@@ -320,6 +322,18 @@ static void zones(void)
     IS(memcmp(&time, &again, sizeof time), 0);
     ANSWERS(FileTimeToLocalFileTime(&none, &there), FALSE, ERROR_INVALID_PARAMETER);
     ANSWERS(LocalFileTimeToFileTime(&none, &there), FALSE, ERROR_INVALID_PARAMETER);
+    /* At the last time, ahead of UTC and behind it: the sum is a number of 64 bits. */
+    const FILETIME last = { 0xFFFFFFFFu, 0x7FFFFFFFu };
+    must(setenv("TZ", "XXX-14", 1) == 0);
+    tzset();
+    ANSWERS(FileTimeToLocalFileTime(&last, &there), TRUE, UNTOUCHED);
+    IS((ULONGLONG)there.dwHighDateTime << 32 | there.dwLowDateTime, INT64_MAX + UINT64_C(504000000000));
+    must(setenv("TZ", "XXX12", 1) == 0);
+    tzset();
+    ANSWERS(LocalFileTimeToFileTime(&last, &again), TRUE, UNTOUCHED);
+    IS((ULONGLONG)again.dwHighDateTime << 32 | again.dwLowDateTime, INT64_MAX + UINT64_C(432000000000));
+    must(unsetenv("TZ") == 0);
+    tzset();
     DWORD adjustment, increment;
     BOOL is_disabled;
     ANSWERS(GetSystemTimeAdjustment(&adjustment, &increment, &is_disabled), TRUE, UNTOUCHED);

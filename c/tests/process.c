@@ -5,6 +5,7 @@
 
 #include "check.h"
 
+#include <errno.h>
 #include <signal.h>
 #include <sys/resource.h>
 #include <sys/wait.h>
@@ -138,9 +139,23 @@ static void errors_told(void)
     IS(signal_after(0xE0000001), SIGABRT);
 }
 
+/* A thread's name, for which the system has no file more, loses no errno of the program. */
+static void errno_stays(void)
+{
+    struct rlimit files, none;
+    must(getrlimit(RLIMIT_NOFILE, &files) == 0);
+    none = (struct rlimit){ .rlim_cur = 0, .rlim_max = files.rlim_max };
+    must(setrlimit(RLIMIT_NOFILE, &none) == 0);
+    errno = EDOM;
+    IS(SetThreadDescription(GetCurrentThread(), L"named"), S_OK);
+    IS(errno, EDOM);
+    must(setrlimit(RLIMIT_NOFILE, &files) == 0);
+}
+
 int main(void)
 {
     errors_told();
+    errno_stays();
     handlers();
     process();
     priority_classes();

@@ -7,15 +7,16 @@ NTW_INTERNAL void name_task(pid_t task, PCWSTR description)
 {
     char path[64], name[16];
     size_t length = 0;
+    const int error = errno;
     for (; length < sizeof name - 1 && description[length] != 0; length++)
         name[length] = description[length] < 128 ? (char)description[length] : '?';
     snprintf(path, sizeof path, "/proc/self/task/%d/comm", (int)task);
     const int file = open(path, O_WRONLY | O_CLOEXEC);
-    if (file < 0)
-        return;
-    if (write(file, name, length) < 0)
-        errno = 0;
-    close(file);
+    if (file >= 0) {
+        (void)!write(file, name, length);
+        close(file);
+    }
+    errno = error;
 }
 
 /* The caller begins, under the lock. It may have been described before. */

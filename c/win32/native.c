@@ -95,7 +95,8 @@ NTSTATUS NtWaitForMultipleObjects(ULONG count, HANDLE *objects, WAIT_TYPE type, 
 
 NTSTATUS NtDelayExecution(BOOLEAN alertable, PLARGE_INTEGER interval)
 {
-    return (NTSTATUS)SleepEx(ms_of_timeout(interval), alertable);
+    const DWORD before = own.last_error;
+    return state_of_wait(SleepEx(ms_of_timeout(interval), alertable), before);
 }
 
 NTSTATUS NtYieldExecution(void)

@@ -206,7 +206,7 @@ BOOL SystemTimeToFileTime(const SYSTEMTIME *from, LPFILETIME to)
     return TRUE;
 }
 
-/* By how much the zone is ahead of UTC at this time, which is UTC. */
+/* By how much the zone is ahead of UTC at this time, which is UTC. (The sum may be beyond the last time: it is a number of 64 bits then.) */
 static int64_t moments_ahead(int64_t moments)
 {
     struct tm parts;
@@ -219,7 +219,7 @@ BOOL FileTimeToLocalFileTime(const FILETIME *from, LPFILETIME to)
     const int64_t moments = moments_of(from);
     if (moments < 0)
         return fail(ERROR_INVALID_PARAMETER);
-    set_file_time(to, (uint64_t)(moments + moments_ahead(moments)));
+    set_file_time(to, (uint64_t)moments + (uint64_t)moments_ahead(moments));
     return TRUE;
 }
 
@@ -228,7 +228,8 @@ BOOL LocalFileTimeToFileTime(const FILETIME *from, LPFILETIME to)
     const int64_t moments = moments_of(from);
     if (moments < 0)
         return fail(ERROR_INVALID_PARAMETER);
-    set_file_time(to, (uint64_t)(moments - moments_ahead(moments - moments_ahead(moments))));
+    const uint64_t near = (uint64_t)moments - (uint64_t)moments_ahead(moments);
+    set_file_time(to, (uint64_t)moments - (uint64_t)moments_ahead((int64_t)near));
     return TRUE;
 }
 

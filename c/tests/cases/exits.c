@@ -2,7 +2,10 @@
 #include "case.h"
 #include "../../nt.h"
 
+#include <fcntl.h>
 #include <sys/resource.h>
+#include <sys/select.h>
+#include <sys/syscall.h>
 
 /* exit_in_handler. Within 20 s: 12 passed, 0 failed.
  *
@@ -130,6 +133,47 @@ int case_journal_beside_output(int count, char **words)
     must(child > 0 && waitpid(child, NULL, 0) == child && read(file, line, sizeof line - 1) > 0 && unlink(path) == 0);
     printf("%.*s\n", (int)strcspn(line, "\n"), line);
     return 0;
+}
+
+/* scheduled_calls. Within 10 s, unsanitized: 1 passed, 0 failed.
+ *
+ * Beside a scheduler a call of the system may have any fourth number, which is an address in some calls alone, and a wait may be as long as can be. */
+
+static DWORD write_later(LPVOID end)
+{
+    Sleep(1000);
+    must(write(*(const int *)end, "x", 1) == 1);
+    return 0;
+}
+
+static int call_by_schedule(void)
+{
+    int ends[2];
+    fd_set reads;
+    struct timeval longest = { .tv_sec = LONG_MAX };
+    IS(syscall(SYS_openat, AT_FDCWD, "/dev/null", O_RDONLY, 0644L) >= 0, 1);
+    must(pipe(ends) == 0 && CreateThread(NULL, 0, write_later, &ends[1], 0, NULL) != NULL);
+    FD_ZERO(&reads);
+    FD_SET(ends[0], &reads);
+    IS(select(ends[0] + 1, &reads, NULL, NULL, &longest), 1);
+    return counted();
+}
+
+int case_scheduled_calls(int count, char **words)
+{
+    int status = -1;
+    if (count > 1)
+        return call_by_schedule();
+    const pid_t child = fork();
+    if (child == 0) {
+        setenv("NTWIN_SCHEDULE", "random:1", 1);
+        must(freopen("/dev/null", "w", stdout) != NULL && freopen("/dev/null", "w", stderr) != NULL);
+        execl("/proc/self/exe", words[0], "again", (char *)NULL);
+        _exit(2);
+    }
+    must(child > 0 && waitpid(child, &status, 0) == child);
+    IS(status, 0);
+    return counted();
 }
 
 /* left_for_good. Within 10 s, unsanitized: 10 passed, 0 failed.

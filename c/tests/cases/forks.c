@@ -1,6 +1,8 @@
 /* What a child of fork may do, beside what threads of its parent do. */
 #include "case.h"
 
+#include <winternl.h>
+
 /* (A child ends by _exit, and joins no thread before.) */
 const char *__tsan_default_options(void)
 {
@@ -84,6 +86,9 @@ static int calls_beside_threads(void)
     int wrong = FAILS(SetEvent(event)) + FAILS(CloseHandle(event)) + FAILS(CreateMutex(NULL, FALSE, NULL) != NULL);
     wrong += FAILS(CreateThread(NULL, 0, does_nothing, NULL, 0, NULL) != NULL);
     wrong += FAILS(WaitForSingleObject(event, 4000) != WAIT_FAILED) + FAILS(GetExitCodeThread(callers[0], &code));
+    LARGE_INTEGER ms = { .QuadPart = -10000 };
+    SetLastError(UNTOUCHED);
+    wrong += (NtDelayExecution(FALSE, &ms) != STATUS_NOT_SUPPORTED) + (GetLastError() != UNTOUCHED);
     const double began = now_ms();
     Sleep(1);
     return wrong + (now_ms() - began < 1);

@@ -7,7 +7,9 @@
 #include <chrono>
 #include <condition_variable>
 #include <ctime>
+#include <fcntl.h>
 #include <future>
+#include <limits>
 #include <mutex>
 #include <poll.h>
 #include <pthread.h>
@@ -15,6 +17,7 @@
 #include <shared_mutex>
 #include <stdexcept>
 #include <sys/select.h>
+#include <sys/syscall.h>
 #include <sys/time.h>
 #include <thread>
 #include <unistd.h>
@@ -197,8 +200,20 @@ static void descriptors()
     std::thread second([&] { assert(write(ends[1], "y", 1) == 1); });
     assert(read(ends[0], &byte, 1) == 1 && byte == 'y');
     second.join();
+    time = { std::numeric_limits<time_t>::max(), 0 };
+    FD_SET(ends[0], &set);
+    std::thread third([&] { assert(usleep(1000) == 0 && write(ends[1], "z", 1) == 1); });
+    assert(select(ends[0] + 1, &set, nullptr, nullptr, &time) == 1);
+    third.join();
     close(ends[0]);
     close(ends[1]);
+}
+
+// The fourth number of a call is no time but in a wait on a word.
+static void system_calls()
+{
+    const long file = syscall(SYS_openat, AT_FDCWD, "/dev/null", O_RDONLY, 0644L);
+    assert(file >= 0 && syscall(SYS_close, file, 0L, 0L, 1L) == 0);
 }
 
 static void clocks()
@@ -236,7 +251,7 @@ static int answer_of()
 
 int main()
 {
-    void (*const all[])() = { joins, mutexes, readers_and_writers, semaphores, conditions, once, barriers, descriptors, clocks };
+    void (*const all[])() = { joins, mutexes, readers_and_writers, semaphores, conditions, once, barriers, descriptors, system_calls, clocks };
     for (void (*one)() : all)
         one();
     assert(std::async(std::launch::async, answer_of).get() == 42);
