@@ -160,7 +160,7 @@ make_apc s new t k routine arg r gs served apc =
 
 -- ---- both, in either order
 
-pushed_comm : (qs : List (List Queued)) (h k : ℕ) (p q : Queued) → h ≢ k → pushed (pushed qs h p) k q ≡ pushed (pushed qs k q) h p
+pub pushed_comm : (qs : List (List Queued)) (h k : ℕ) (p q : Queued) → h ≢ k → pushed (pushed qs h p) k q ≡ pushed (pushed qs k q) h p
 pushed_comm qs h k p q differ =
     let x : List Queued = apc_queue_of qs h ++ p ∷ [] in
     let y : List Queued = apc_queue_of qs k ++ q ∷ [] in

@@ -12,3 +12,8 @@ pub mod Apcs
 pub mod ApcsBeside
 pub mod Timers
 pub mod TimersBeside
+pub mod Parts
+pub mod Alike
+pub mod PartsOfCalls
+pub mod PartsOfWaits
+pub mod Footprint

@@ -157,7 +157,7 @@ idle_made (Ends t hs) s u idle = go (map.get (map.remove s.waits t) u) refl
     go None e = refl
     go (Some w) e = let h : true ≡ false = sym (ap is_some (get_removed s.waits t u w e).1) ∙ idle in (cc)
 
-idle_along : (ps : List Piece) (s : State) (u : ℕ) → pends s u ≡ false → pends (all_made ps s) u ≡ false
+pub idle_along : (ps : List Piece) (s : State) (u : ℕ) → pends s u ≡ false → pends (all_made ps s) u ≡ false
 idle_along [] s u idle = idle
 idle_along (p ∷ ps) s u idle = idle_along ps (made p s) u (idle_made p s u idle)
 

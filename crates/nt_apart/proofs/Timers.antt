@@ -167,7 +167,7 @@ filter_comm p q (x ∷ l) = go (p x) (q x) refl refl (filter_comm p q l)
     go false true is is' rest = ap (λ c. if c then x ∷ filter p (filter q l) else filter p (filter q l)) is ∙ rest
     go false false is is' rest = rest
 
-withdrawn_comm : (qs : List (List Queued)) (h k : ℕ) → withdrawn (withdrawn qs k) h ≡ withdrawn (withdrawn qs h) k
+pub withdrawn_comm : (qs : List (List Queued)) (h k : ℕ) → withdrawn (withdrawn qs k) h ≡ withdrawn (withdrawn qs h) k
 withdrawn_comm [] h k = refl
 withdrawn_comm (l ∷ qs) h k =
     ap (λ (x : List Queued). x ∷ withdrawn (withdrawn qs k) h) (filter_comm (λ q. not (is_from h q.timer)) (λ q. not (is_from k q.timer)) l)

@@ -60,7 +60,7 @@ beside_timed s h k f g apart served done = record {
     kept : (o : ℕ) → IsInReach s h o → object_at (with_object s.objects k g) o ≡ object_at s.objects o
     kept o reach = get_or-set_other s.objects k o (g (object_at s.objects k)) (Thread false) (λ same. apart (subst (λ (i : ℕ). IsInReach s h i) same reach))
 
-numbers_for : (x y : State) (k : ℕ) (g : Object → Object) (numbers : List ℕ) → length y.objects ≡ length x.objects → object_at y.objects k ≡ object_at x.objects k → AreRising (IsChanged x.objects (with_object x.objects k g)) numbers → AreRising (IsChanged y.objects (with_object y.objects k g)) numbers
+pub numbers_for : (x y : State) (k : ℕ) (g : Object → Object) (numbers : List ℕ) → length y.objects ≡ length x.objects → object_at y.objects k ≡ object_at x.objects k → AreRising (IsChanged x.objects (with_object x.objects k g)) numbers → AreRising (IsChanged y.objects (with_object y.objects k g)) numbers
 numbers_for x y k g numbers long same rising =
     rising_along (IsChanged x.objects (with_object x.objects k g)) (IsChanged y.objects (with_object y.objects k g)) numbers
     (changed_along x.objects y.objects k g long (sym same))

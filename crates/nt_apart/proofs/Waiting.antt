@@ -35,11 +35,11 @@ wait_unchanged s u (WaitCall.Objects all mode handles) only = refl
 wait_unchanged s u (WaitCall.Sleep mode) only = refl
 wait_unchanged s u (WaitCall.Swap signal object mode) only = (cc)
 
-record IsWaitStep (s new : State) (u : ℕ) (wait : WaitCall) (r : Reply) (gs : List Grant) : Type 0 where
-  grants : gs ≡ []
-  answers : ◌≡◌ {A = Reply × State} (r, new) (begun s u (asked_wait s.now wait) (timeout_of wait))
+pub record IsWaitStep (s new : State) (u : ℕ) (wait : WaitCall) (r : Reply) (gs : List Grant) : Type 0 where
+  pub grants : gs ≡ []
+  pub answers : ◌≡◌ {A = Reply × State} (r, new) (begun s u (asked_wait s.now wait) (timeout_of wait))
 
-wait_step : (s new : State) (u : ℕ) (wait : WaitCall) (r : Reply) (gs : List Grant) → only_waits wait ≡ true → IsQuiet s → Step s u (Call.Wait wait) r gs new → IsWaitStep s new u wait r gs
+pub wait_step : (s new : State) (u : ℕ) (wait : WaitCall) (r : Reply) (gs : List Grant) → only_waits wait ≡ true → IsQuiet s → Step s u (Call.Wait wait) r gs new → IsWaitStep s new u wait r gs
 wait_step s new u wait r gs only quiet step =
     let same = wait_unchanged s u wait only in
     let serves : Serve (sequence s step.numbers) s step.served step.calm = subst (λ (x : State). Serve (sequence s step.numbers) x step.served step.calm) same step.serves in
@@ -54,7 +54,7 @@ wait_step s new u wait r gs only quiet step =
 pub none_changed : (os : List Object) → AreRising (IsChanged os os) []
 none_changed os = record { rising = tt; exactly = λ x. (λ m. absurd (contains_none x m), λ changed. absurd (changed.1 refl)) }
 
-make_wait : (s : State) (u : ℕ) (wait : WaitCall) → only_waits wait ≡ true → IsQuiet s →
+pub make_wait : (s : State) (u : ℕ) (wait : WaitCall) → only_waits wait ≡ true → IsQuiet s →
     Step s u (Call.Wait wait) (begun s u (asked_wait s.now wait) (timeout_of wait)).0 [] (begun s u (asked_wait s.now wait) (timeout_of wait)).1
 make_wait s u wait only quiet =
     let same = sym (wait_unchanged s u wait only) in
@@ -119,6 +119,16 @@ pend_free s u h w unnamed free v x e = go (eq_by_cmp nat_cmp v u) (sym (map.get-
     go true e = let same : w ≡ x = cc in ap (λ (y : Wait). wait_names y h) (sym same) ∙ unnamed
     go false e = free v x e
 
+-- it is quiet after the wait has begun too
+pub quiet_begun : (s : State) (u : ℕ) (w : Wait) (ms : ℕ) → IsQuiet s → IsQuiet (begun s u w ms).1
+quiet_begun s u w ms quiet = go (fits s.objects u w) refl (w.alertable && has_apc s.apcs u) refl (ms == 0)
+  where
+    go : (a : Bool) → fits s.objects u w ≡ a → (b : Bool) → (w.alertable && has_apc s.apcs u) ≡ b → (c : Bool) → IsQuiet (begins a b c s u w).1
+    go true ia b ib c = record { served = served_fewer s (objects_taken s.objects u w) quiet.served (λ v k e. unready_after s.objects u w v k e); calm = quiet.calm }
+    go false ia true ib c = record { served = quiet.served; calm = quiet.calm }
+    go false ia false ib true = record { served = quiet.served; calm = quiet.calm }
+    go false ia false ib false = record { served = pend_served s u w ia quiet.served; calm = pend_calm s u w ib quiet.calm }
+
 -- it is quiet, no pending wait names the object, and that is as it was
 record IsLeft (s new : State) (h : ℕ) : Type 0 where
   quiet : IsQuiet new
@@ -127,23 +137,13 @@ record IsLeft (s new : State) (h : ℕ) : Type 0 where
   long : length new.objects ≡ length s.objects
 
 left_by : (s : State) (u h : ℕ) (w : Wait) (ms : ℕ) → IsQuiet s → IsUnawaited s h → wait_names w h ≡ false → IsLeft s (begun s u w ms).1 h
-left_by s u h w ms quiet free unnamed = go (fits s.objects u w) refl (w.alertable && has_apc s.apcs u) refl (ms == 0)
+left_by s u h w ms quiet free unnamed = go (fits s.objects u w) refl (w.alertable && has_apc s.apcs u) refl (ms == 0) (quiet_begun s u w ms quiet)
   where
-    go : (a : Bool) → fits s.objects u w ≡ a → (b : Bool) → (w.alertable && has_apc s.apcs u) ≡ b → (c : Bool) → IsLeft s (begins a b c s u w).1 h
-    go true ia b ib c = record {
-      quiet = record { served = served_fewer s (objects_taken s.objects u w) quiet.served (λ v k e. unready_after s.objects u w v k e); calm = quiet.calm };
-      free = free;
-      kept = taken_leaves s.objects u h w unnamed ia;
-      long = length_taken s.objects u w;
-    }
-    go false ia true ib c = record { quiet = record { served = quiet.served; calm = quiet.calm }; free = free; kept = refl; long = refl }
-    go false ia false ib true = record { quiet = record { served = quiet.served; calm = quiet.calm }; free = free; kept = refl; long = refl }
-    go false ia false ib false = record {
-      quiet = record { served = pend_served s u w ia quiet.served; calm = pend_calm s u w ib quiet.calm };
-      free = pend_free s u h w unnamed free;
-      kept = refl;
-      long = refl;
-    }
+    go : (a : Bool) → fits s.objects u w ≡ a → (b : Bool) → (w.alertable && has_apc s.apcs u) ≡ b → (c : Bool) → IsQuiet (begins a b c s u w).1 → IsLeft s (begins a b c s u w).1 h
+    go true ia b ib c after = record { quiet = after; free = free; kept = taken_leaves s.objects u h w unnamed ia; long = length_taken s.objects u w }
+    go false ia true ib c after = record { quiet = after; free = free; kept = refl; long = refl }
+    go false ia false ib true after = record { quiet = after; free = free; kept = refl; long = refl }
+    go false ia false ib false after = record { quiet = after; free = pend_free s u h w unnamed free; kept = refl; long = refl }
 
 -- ---- both, in either order
 

@@ -154,13 +154,13 @@ taken_comm os t u v w one two fit fit' =
 
 -- ---- how a wait begins, and what comes of it
 
-data How : Type 0 where
+pub data How : Type 0 where
   Takes : How
   Rouses : How
   TimesOut : How
   Pends : How
 
-abbrev how : Bool → Bool → Bool → How
+abbrev pub how : Bool → Bool → Bool → How
 how fit roused zero = if fit then Takes else if roused then Rouses else if zero then TimesOut else Pends
 
 how_takes : (a b c : Bool) → how a b c ≡ Takes → a ≡ true
@@ -169,36 +169,36 @@ how_takes false true c e = (cc)
 how_takes false false true e = (cc)
 how_takes false false false e = (cc)
 
-abbrev objects_by : How → List Object → ℕ → Wait → List Object
+abbrev pub objects_by : How → List Object → ℕ → Wait → List Object
 objects_by Takes os t w = objects_taken os t w
 objects_by Rouses os t w = os
 objects_by TimesOut os t w = os
 objects_by Pends os t w = os
 
-abbrev hand_of : How → Option Bool
+abbrev pub hand_of : How → Option Bool
 hand_of Takes = Some false
 hand_of Rouses = Some true
 hand_of TimesOut = Some false
 hand_of Pends = None
 
-abbrev handed : Option Bool → List Bool → ℕ → List Bool
+abbrev pub handed : Option Bool → List Bool → ℕ → List Bool
 handed None hs t = hs
 handed (Some may) hs t = slice_set hs t may
 
-abbrev waits_by : How → Pending → ℕ → Wait → Pending
+abbrev pub waits_by : How → Pending → ℕ → Wait → Pending
 waits_by Takes m t w = m
 waits_by Rouses m t w = m
 waits_by TimesOut m t w = m
 waits_by Pends m t w = map.insert m t w
 
-abbrev queues_by : How → (ℕ → List ℕ) → ℕ → Wait → ℕ → List ℕ
+abbrev pub queues_by : How → (ℕ → List ℕ) → ℕ → Wait → ℕ → List ℕ
 queues_by Takes q t w = q
 queues_by Rouses q t w = q
 queues_by TimesOut q t w = q
 queues_by Pends q t w = λ h. if wait_names w h then q h ++ t ∷ [] else q h
 
 -- what a begun wait makes of the state
-abbrev effect : How → State → ℕ → Wait → State
+abbrev pub effect : How → State → ℕ → Wait → State
 effect h s t w = record s {
   objects = objects_by h s.objects t w;
   handing = handed (hand_of h) s.handing t;
@@ -206,13 +206,13 @@ effect h s t w = record s {
   queues = queues_by h s.queues t w;
 }
 
-abbrev answer : How → List Object → ℕ → Wait → Reply
+abbrev pub answer : How → List Object → ℕ → Wait → Reply
 answer Takes os t w = Reply.Status (status os t w)
 answer Rouses os t w = Reply.Status io_completion_code
 answer TimesOut os t w = Reply.Status (late_status (is_sleep w))
 answer Pends os t w = Reply.Pended
 
-abbrev how_of : State → ℕ → Wait → ℕ → How
+abbrev pub how_of : State → ℕ → Wait → ℕ → How
 how_of s t w ms = how (fits s.objects t w) (w.alertable && has_apc s.apcs t) (ms == 0)
 
 abbrev pub begins : Bool → Bool → Bool → State → ℕ → Wait → Reply × State
@@ -222,10 +222,10 @@ begins a b c s t w =
     else if c then (Reply.Status (late_status (is_sleep w)), with_handing s t false)
     else (Reply.Pended, pending_too s t w)
 
-abbrev came : How → State → ℕ → Wait → Reply × State
+abbrev pub came : How → State → ℕ → Wait → Reply × State
 came h s t w = (answer h s.objects t w, effect h s t w)
 
-begun_is : (s : State) (t : ℕ) (w : Wait) (ms : ℕ) → begun s t w ms ≡ came (how_of s t w ms) s t w
+pub begun_is : (s : State) (t : ℕ) (w : Wait) (ms : ℕ) → begun s t w ms ≡ came (how_of s t w ms) s t w
 begun_is s t w ms = go (fits s.objects t w) (w.alertable && has_apc s.apcs t) (ms == 0)
   where
     go : (a b c : Bool) → begins a b c s t w ≡ came (how a b c) s t w
@@ -254,8 +254,8 @@ handed_comm None (Some b) hs t u differ = refl
 handed_comm (Some a) None hs t u differ = refl
 handed_comm (Some a) (Some b) hs t u differ = set_comm hs t u a b differ
 
-waits_comm : (h k : How) (m : Pending) (t u : ℕ) (v w : Wait) → t ≢ u → waits_by k (waits_by h m t v) u w ≡ waits_by h (waits_by k m u w) t v
-waits_comm Pends Pends m t u v w differ = map.same_map nat_cmp_total map.nat_cmp-IsAntisymmetric _ _ each
+pub inserts_comm : (m : Pending) (t u : ℕ) (v w : Wait) → t ≢ u → map.insert (map.insert m t v) u w ≡ map.insert (map.insert m u w) t v
+inserts_comm m t u v w differ = map.same_map nat_cmp_total map.nat_cmp-IsAntisymmetric _ _ each
   where
     pick : (q : ℕ) (a b : Bool) → eq_by_cmp nat_cmp q u ≡ a → eq_by_cmp nat_cmp q t ≡ b → cond a (Some w) (cond b (Some v) (map.get m q)) ≡ cond b (Some v) (cond a (Some w) (map.get m q))
     pick q true true x y = absurd (differ (sym (eqb-true q t (sym (unsigned_tied q t) ∙ y)) ∙ eqb-true q u (sym (unsigned_tied q u) ∙ x)))
@@ -270,9 +270,12 @@ waits_comm Pends Pends m t u v w differ = map.same_map nat_cmp_total map.nat_cmp
         ∙ (pick q (eq_by_cmp nat_cmp q u) (eq_by_cmp nat_cmp q t) refl refl
         ∙ (ap (λ o. cond (eq_by_cmp nat_cmp q t) (Some v) o) (sym (map.get-insert nat_cmp_total m u w q))
         ∙ sym (map.get-insert nat_cmp_total (map.insert m u w) t v q))))
+
+waits_comm : (h k : How) (m : Pending) (t u : ℕ) (v w : Wait) → t ≢ u → waits_by k (waits_by h m t v) u w ≡ waits_by h (waits_by k m u w) t v
+waits_comm Pends Pends m t u v w differ = inserts_comm m t u v w differ
 waits_comm _ _ m t u v w differ = refl
 
-queue_comm : (q : List ℕ) (t u : ℕ) (v w : Wait) (h : ℕ) → NameNothingInCommon v w → (if wait_names w h then (if wait_names v h then q ++ t ∷ [] else q) ++ u ∷ [] else (if wait_names v h then q ++ t ∷ [] else q)) ≡ (if wait_names v h then (if wait_names w h then q ++ u ∷ [] else q) ++ t ∷ [] else (if wait_names w h then q ++ u ∷ [] else q))
+pub queue_comm : (q : List ℕ) (t u : ℕ) (v w : Wait) (h : ℕ) → NameNothingInCommon v w → (if wait_names w h then (if wait_names v h then q ++ t ∷ [] else q) ++ u ∷ [] else (if wait_names v h then q ++ t ∷ [] else q)) ≡ (if wait_names v h then (if wait_names w h then q ++ u ∷ [] else q) ++ t ∷ [] else (if wait_names w h then q ++ u ∷ [] else q))
 queue_comm q t u v w h one = go (wait_names v h) (wait_names w h) refl refl
   where
     go : (a b : Bool) → wait_names v h ≡ a → wait_names w h ≡ b → (if b then (if a then q ++ t ∷ [] else q) ++ u ∷ [] else (if a then q ++ t ∷ [] else q)) ≡ (if a then (if b then q ++ u ∷ [] else q) ++ t ∷ [] else (if b then q ++ u ∷ [] else q))
@@ -300,7 +303,7 @@ effects_comm h k s t u v w differ one two fit fit' =
 how_after : (h : How) (s : State) (t u : ℕ) (v w : Wait) (n : ℕ) → NameNothingInCommon w v → (h ≡ Takes → fits s.objects t v ≡ true) → how_of (effect h s t v) u w n ≡ how_of s u w n
 how_after h s t u v w n two fit = ap (λ b. how b (w.alertable && has_apc s.apcs u) (n == 0)) (fits_by h s.objects t u v w two fit)
 
-takes_if : (s : State) (t : ℕ) (w : Wait) (ms : ℕ) → how_of s t w ms ≡ Takes → fits s.objects t w ≡ true
+pub takes_if : (s : State) (t : ℕ) (w : Wait) (ms : ℕ) → how_of s t w ms ≡ Takes → fits s.objects t w ≡ true
 takes_if s t w ms = how_takes (fits s.objects t w) (w.alertable && has_apc s.apcs t) (ms == 0)
 
 second_is : (s : State) (t u : ℕ) (v w : Wait) (m n : ℕ) → NameNothingInCommon w v → ◌≡◌ {A = Reply × State} (begun (begun s t v m).1 u w n) (answer (how_of s u w n) s.objects u w, effect (how_of s u w n) (effect (how_of s t v m) s t v) u w)

@@ -5,6 +5,7 @@ ghost use Rattle.nt_apart.specs.Apcs.{ApcsToTwoThreadsCommute};
 ghost use Rattle.nt_apart.specs.ApcsBeside.{SignalsCommuteWithApcs, ApcsCommuteWithSignals};
 ghost use Rattle.nt_apart.specs.Timers.{TwoTimersCommute};
 ghost use Rattle.nt_apart.specs.TimersBeside.{SignalsCommuteWithTimers, TimersCommuteWithSignals};
+ghost use Rattle.nt_apart.specs.Footprint.{StepsApartCommute};
 
 /// Two acts that change one object each, not the same, that no pending wait names, may be made in either order: the replies are the same, no
 /// wait ends, and the state after both is the same.
@@ -74,4 +75,10 @@ pub fn signals_commute_with_timers()
 /// The same where the timer is set or cancelled first.
 pub fn timers_commute_with_signals()
     ensures { TimersCommuteWithSignals }
+{}
+
+/// Two calls that touch nothing in common may be made in either order: waits that begin, whatever comes of each, and acts that signal an object,
+/// queue an APC, set a timer for later, cancel one, or close a handle.
+pub fn steps_apart_commute()
+    ensures { StepsApartCommute }
 {}

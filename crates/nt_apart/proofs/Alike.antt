@@ -1,0 +1,192 @@
+-- Two states that have in common what a call touches, and that parts which touch nothing of it lead to such a state.
+use Rattle.std.proofs.Common.{◌≡◌, ◌≢◌, ◌⊎◌, inl, inr, ℕ, zero, suc, Bool, true, false, cond, not, ◌||◌, List, [], ◌∷◌, ◌++◌, length, refl, sym, ap, ◌∙◌, subst, Option, Some, None, Contains}
+use Rattle.std.specs.Prelude.{if◌then◌else◌}
+use Rattle.std.specs.List.{find}
+use Rattle.std.specs.Cmp.{nat_cmp_total}
+use Rattle.std.specs.Ordering.{nat_cmp}
+use Rattle.std.specs.FinMap as fin
+use Rattle.std.proofs.lemmas.Bool.{cases_eq}
+use Rattle.std.proofs.lemmas.List.{length-set, get_or-set_other}
+use Rattle.nt_machine.proofs.Walks.{tied, apart, get_removed, get_other}
+use Rattle.nt_objects.specs.declared.object.Object.TheVariants.{Thread}
+use Rattle.nt_waits.specs.declared.wait.Wait.{Wait}
+use Rattle.nt_apc.specs.declared.apc.Queued.{Queued}
+use Rattle.nt_apc.specs.Queues.{apc_queue_of, is_from, has_from, without_from, withdrawn}
+use Rattle.nt_calls.specs.State.{State, object_at, wait_names, pends}
+use Rattle.nt_calls.specs.Serving.{sequence}
+use Rattle.nt_apart.proofs.Waking.{each_leaves}
+use Rattle.nt_apart.proofs.Waits.{none_equal}
+use Rattle.nt_apart.proofs.Pieces.{long_each, find_others, find_flat}
+use Rattle.nt_apart.proofs.Reach.{AlikeInBoth}
+use Rattle.nt_apart.proofs.Apcs.{asked_apc}
+use Rattle.nt_apart.proofs.Parts.{Part, Changes, Gets, Leaves, Joins, Posts, Withdraws, done, all_done, OnObject, OnThread, Moves, SomeOnObject, SomeOnThread, SomeMoves}
+
+-- the same objects, the same waits and APCs of threads, and the same waits that a call may end
+pub record Alike (O T : ℕ → Type 0) (W : Wait → Type 0) (x y : State) : Type 0 where
+  pub long : length y.objects ≡ length x.objects
+  pub now : y.now ≡ x.now
+  pub posts : length y.apcs ≡ length x.apcs
+  pub objects : (o : ℕ) → O o → object_at y.objects o ≡ object_at x.objects o
+  pub waits : (v : ℕ) → T v → fin.get y.waits v ≡ fin.get x.waits v
+  pub apcs : (v : ℕ) → T v → apc_queue_of y.apcs v ≡ apc_queue_of x.apcs v
+  pub there : (v : ℕ) (w : Wait) → W w → fin.get x.waits v ≡ Some w → fin.get y.waits v ≡ Some w
+  pub back : (v : ℕ) (w : Wait) → W w → fin.get y.waits v ≡ Some w → fin.get x.waits v ≡ Some w
+  pub queues : (ns : List ℕ) → AlikeInBoth (sequence x ns) (sequence y ns) x y
+
+pub alike_back : (O T : ℕ → Type 0) (W : Wait → Type 0) (x y : State) → Alike O T W x y → Alike O T W y x
+alike_back O T W x y alike = record {
+  long = sym alike.long;
+  now = sym alike.now;
+  posts = sym alike.posts;
+  objects = λ o m. sym (alike.objects o m);
+  waits = λ v m. sym (alike.waits v m);
+  apcs = λ v m. sym (alike.apcs v m);
+  there = alike.back;
+  back = alike.there;
+  queues = λ ns p ix iy. sym (alike.queues ns p iy ix);
+}
+
+pub alike_itself : (O T : ℕ → Type 0) (W : Wait → Type 0) (x : State) → Alike O T W x x
+alike_itself O T W x = record {
+  long = refl;
+  now = refl;
+  posts = refl;
+  objects = λ o m. refl;
+  waits = λ v m. refl;
+  apcs = λ v m. refl;
+  there = λ v w n e. e;
+  back = λ v w n e. e;
+  queues = λ ns p ix iy. refl;
+}
+
+-- ---- what parts leave
+
+long_done : (p : Part) (x : State) → length (done p x).objects ≡ length x.objects
+long_done (Changes h f) x = length-set x.objects h (f (object_at x.objects h))
+long_done (Gets t hs) x = long_each x.objects t hs
+long_done _ x = refl
+
+long_along : (ps : List Part) (x : State) → length (all_done ps x).objects ≡ length x.objects
+long_along [] x = refl
+long_along (p ∷ ps) x = long_along ps (done p x) ∙ long_done p x
+
+now_done : (p : Part) (x : State) → (done p x).now ≡ x.now
+now_done (Changes h f) x = refl
+now_done _ x = refl
+
+now_along : (ps : List Part) (x : State) → (all_done ps x).now ≡ x.now
+now_along [] x = refl
+now_along (p ∷ ps) x = now_along ps (done p x) ∙ now_done p x
+
+long_withdrawn : (qs : List (List Queued)) (h : ℕ) → length (withdrawn qs h) ≡ length qs
+long_withdrawn [] h = refl
+long_withdrawn (l ∷ qs) h = ap (λ (n : ℕ). suc n) (long_withdrawn qs h)
+
+posts_done : (p : Part) (x : State) → length (done p x).apcs ≡ length x.apcs
+posts_done (Posts t r a) x = length-set x.apcs t (apc_queue_of x.apcs t ++ asked_apc r a ∷ [])
+posts_done (Withdraws h) x = long_withdrawn x.apcs h
+posts_done _ x = refl
+
+posts_along : (ps : List Part) (x : State) → length (all_done ps x).apcs ≡ length x.apcs
+posts_along [] x = refl
+posts_along (p ∷ ps) x = posts_along ps (done p x) ∙ posts_done p x
+
+object_done : (p : Part) (x : State) (o : ℕ) → (OnObject p o → ⊥) → object_at (done p x).objects o ≡ object_at x.objects o
+object_done (Changes h f) x o none = get_or-set_other x.objects h o (f (object_at x.objects h)) (Thread false) (λ e. none (sym e))
+object_done (Gets t hs) x o none = each_leaves x.objects t o hs (none_equal o hs (λ i m e. none (subst (λ (j : ℕ). Contains hs j) e m)))
+object_done _ x o none = refl
+
+pub object_along : (ps : List Part) (x : State) (o : ℕ) → (SomeOnObject ps o → ⊥) → object_at (all_done ps x).objects o ≡ object_at x.objects o
+object_along [] x o none = refl
+object_along (p ∷ ps) x o none = object_along ps (done p x) o (λ m. none (inr m)) ∙ object_done p x o (λ m. none (inl m))
+
+get_inserted : (m : fin.FinMap nat_cmp Wait) (t v : ℕ) (w : Wait) → v ≢ t → fin.get (fin.insert m t w) v ≡ fin.get m v
+get_inserted m t v w differ = fin.get-insert nat_cmp_total m t w v ∙ ap (λ (b : Bool). cond b (Some w) (fin.get m v)) (apart v t differ)
+
+wait_done : (s : State) (p : Part) (x : State) (v : ℕ) → (OnThread s p v → ⊥) → fin.get (done p x).waits v ≡ fin.get x.waits v
+wait_done s (Leaves t) x v none = get_other x.waits t v (λ e. none (sym e))
+wait_done s (Joins t w) x v none = get_inserted x.waits t v w (λ e. none (sym e))
+wait_done s _ x v none = refl
+
+pub wait_along : (s : State) (ps : List Part) (x : State) (v : ℕ) → (SomeOnThread s ps v → ⊥) → fin.get (all_done ps x).waits v ≡ fin.get x.waits v
+wait_along s [] x v none = refl
+wait_along s (p ∷ ps) x v none = wait_along s ps (done p x) v (λ m. none (inr m)) ∙ wait_done s p x v (λ m. none (inl m))
+
+-- the APCs of a thread that has none of this timer
+queue_withdrawn : (qs : List (List Queued)) (h v : ℕ) → apc_queue_of (withdrawn qs h) v ≡ without_from h (apc_queue_of qs v)
+queue_withdrawn [] h v = refl
+queue_withdrawn (l ∷ qs) h zero = refl
+queue_withdrawn (l ∷ qs) h (suc v) = queue_withdrawn qs h v
+
+none_from : (h : ℕ) (l : List Queued) → (has_from h l ≡ true → ⊥) → without_from h l ≡ l
+none_from h [] none = refl
+none_from h (q ∷ l) none = go (is_from h q.timer) refl (none_from h l)
+  where
+    go : (b : Bool) → is_from h q.timer ≡ b → ((has_from h l ≡ true → ⊥) → without_from h l ≡ l) → (if not b then q ∷ without_from h l else without_from h l) ≡ q ∷ l
+    go true is rest = absurd (none (ap (λ (b : Bool). b || has_from h l) is))
+    go false is rest = ap (λ (z : List Queued). q ∷ z) (rest (λ e. none (ap (λ (b : Bool). b || has_from h l) is ∙ e)))
+
+apcs_done : (s : State) (p : Part) (x : State) (v : ℕ) → apc_queue_of x.apcs v ≡ apc_queue_of s.apcs v → (OnThread s p v → ⊥) → apc_queue_of (done p x).apcs v ≡ apc_queue_of s.apcs v
+apcs_done s (Posts t r a) x v same none = get_or-set_other x.apcs t v (apc_queue_of x.apcs t ++ asked_apc r a ∷ []) [] (λ e. none (sym e)) ∙ same
+apcs_done s (Withdraws h) x v same none = queue_withdrawn x.apcs h v ∙ (ap (λ (l : List Queued). without_from h l) same ∙ none_from h (apc_queue_of s.apcs v) none)
+apcs_done s _ x v same none = same
+
+apcs_along : (s : State) (ps : List Part) (x : State) (v : ℕ) → apc_queue_of x.apcs v ≡ apc_queue_of s.apcs v → (SomeOnThread s ps v → ⊥) → apc_queue_of (all_done ps x).apcs v ≡ apc_queue_of s.apcs v
+apcs_along s [] x v same none = same
+apcs_along s (p ∷ ps) x v same none = apcs_along s ps (done p x) v (apcs_done s p x v same (λ m. none (inl m))) (λ m. none (inr m))
+
+-- a wait that pends after them pended before, or each of its objects is touched
+born_of : (p : Part) (x : State) (t : ℕ) (w : Wait) → fin.get (done p x).waits t ≡ Some w → (fin.get x.waits t ≡ Some w) ⊎ ((o : ℕ) → Contains w.objects o → OnObject p o)
+born_of (Leaves u) x t w e = inl (get_removed x.waits u t w e).1
+born_of (Joins u v) x t w e = elim (cases_eq t u) [
+  | inl same ↦ inr (λ o m. subst (λ (z : Wait). Contains z.objects o) (sym (one same)) m)
+  | inr differs ↦ inl (sym (get_inserted x.waits u t v differs) ∙ e)
+]
+  where
+    one : t ≡ u → v ≡ w
+    one same =
+        let here : Some v ≡ Some w = sym (fin.get-insert nat_cmp_total x.waits u v t ∙ ap (λ (b : Bool). cond b (Some v) (fin.get x.waits t)) (tied t u same)) ∙ e in
+        cc
+born_of _ x t w e = inl e
+
+born : (ps : List Part) (x : State) (t : ℕ) (w : Wait) → fin.get (all_done ps x).waits t ≡ Some w → (fin.get x.waits t ≡ Some w) ⊎ ((o : ℕ) → Contains w.objects o → SomeOnObject ps o)
+born [] x t w e = inl e
+born (p ∷ ps) x t w e = elim (born ps (done p x) t w e) [
+  | inl before ↦ elim (born_of p x t w before) [ inl it ↦ inl it | inr touched ↦ inr (λ o m. inl (touched o m)) ]
+  | inr touched ↦ inr (λ o m. inr (touched o m))
+]
+
+find_last : (p : ℕ → Bool) (q : List ℕ) (u : ℕ) → p u ≡ false → find p (q ++ u ∷ []) ≡ find p q
+find_last p [] u e = ap (λ (b : Bool). if b then Some u else None) e
+find_last p (x ∷ q) u e = ap (λ (o : Option ℕ). if p x then Some x else o) (find_last p q u e)
+
+queue_done : (a : Part) (x : State) (p : ℕ → Bool) → ((v : ℕ) → Moves a v → p v ≡ false) → (n : ℕ) → find p ((done a x).queues n) ≡ find p (x.queues n)
+queue_done (Leaves t) x p idle n = find_others p t (x.queues n) (idle t refl)
+queue_done (Joins t w) x p idle n = go (wait_names w n)
+  where
+    go : (b : Bool) → find p (if b then x.queues n ++ t ∷ [] else x.queues n) ≡ find p (x.queues n)
+    go true = find_last p (x.queues n) t (idle t refl)
+    go false = refl
+queue_done _ x p idle n = refl
+
+queue_along : (ps : List Part) (x : State) (p : ℕ → Bool) → ((v : ℕ) → SomeMoves ps v → p v ≡ false) → (n : ℕ) → find p ((all_done ps x).queues n) ≡ find p (x.queues n)
+queue_along [] x p idle n = refl
+queue_along (a ∷ ps) x p idle n = queue_along ps (done a x) p (λ v m. idle v (inr m)) n ∙ queue_done a x p (λ v m. idle v (inl m)) n
+
+-- each thread whose wait begins or ends by these parts is idle before or after
+abbrev pub AreIdle : List Part → State → Type 0
+AreIdle ps s = (v : ℕ) → SomeMoves ps v → (pends s v ≡ false) ⊎ (pends (all_done ps s) v ≡ false)
+
+-- parts that touch no such object and no such thread
+pub alike_after : (O T : ℕ → Type 0) (W : Wait → Type 0) (s : State) (ps : List Part) → ((o : ℕ) → O o → SomeOnObject ps o → ⊥) → ((v : ℕ) → T v → SomeOnThread s ps v → ⊥) → ((w : Wait) → W w → (o : ℕ) × O o × Contains w.objects o) → ((v : ℕ) (w : Wait) → W w → fin.get s.waits v ≡ Some w → T v) → AreIdle ps s → Alike O T W s (all_done ps s)
+alike_after O T W s ps os ts named pending idle = record {
+  long = long_along ps s;
+  now = now_along ps s;
+  posts = posts_along ps s;
+  objects = λ o m. object_along ps s o (os o m);
+  waits = λ v m. wait_along s ps s v (ts v m);
+  apcs = λ v m. apcs_along s ps s v refl (ts v m);
+  there = λ v w n e. wait_along s ps s v (ts v (pending v w n e)) ∙ e;
+  back = λ v w n e. elim (born ps s v w e) [ inl it ↦ it | inr touched ↦ absurd (let it = named w n in os it.0 it.1 (touched it.0 it.2)) ];
+  queues = λ ns p ix iy. find_flat p (all_done ps s).queues s.queues ns (λ n. queue_along ps s p (λ v m. elim (idle v m) [ inl i ↦ ix v i | inr i ↦ iy v i ]) n);
+}

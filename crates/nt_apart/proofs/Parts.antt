@@ -1,0 +1,210 @@
+-- The parts of a step: each changes one list of the state. Parts that touch no object and no thread in common commute.
+use Rattle.std.proofs.Common.{◌≡◌, ◌≢◌, ◌⊎◌, inl, inr, ℕ, zero, suc, Bool, true, false, cond, not, List, [], ◌∷◌, ◌++◌, refl, sym, ap, ◌∙◌, subst, Option, Some, None, Contains}
+use Rattle.std.proofs.Math.Path.{fun_ext}
+use Rattle.std.specs.Prelude.{slice_set, ◌==◌, if◌then◌else◌}
+use Rattle.std.specs.List.{list_any, filter}
+use Rattle.std.specs.Cmp.{nat_cmp_total, unsigned_tied}
+use Rattle.std.specs.Ordering.{nat_cmp, eq_by_cmp}
+use Rattle.std.specs.FinMap as map
+use Rattle.std.proofs.lemmas.Bool.{cases_eq, eqb-true}
+use Rattle.std.proofs.lemmas.List.{set_comm}
+use Rattle.nt_machine.proofs.Listing.{same_no}
+use Rattle.nt_objects.specs.declared.object.Object.{Object}
+use Rattle.nt_tables.specs.declared.handles.Opened.{Opened}
+use Rattle.nt_waits.specs.declared.wait.Wait.{Wait}
+use Rattle.nt_waits.specs.Waits.{others}
+use Rattle.nt_apc.specs.declared.apc.Queued.{Queued}
+use Rattle.nt_apc.specs.Queues.{apc_queue_of, pushed, is_from, has_from, without_from, withdrawn}
+use Rattle.nt_calls.specs.State.{State, Pending, wait_names, with_handing, pending_too, pending_no_more}
+use Rattle.nt_calls.specs.Serving.{take_each}
+use Rattle.nt_calls.specs.Change.{at, apc_queued, handle_closed}
+use Rattle.nt_apart.proofs.Quiet.{changes_commute}
+use Rattle.nt_apart.proofs.Waking.{take_all}
+use Rattle.nt_apart.proofs.Waits.{none_equal, each_comm, inserts_comm, queue_comm}
+use Rattle.nt_apart.proofs.Pieces.{Piece, Alters, Ends, made, all_made, remove_comm, others_comm}
+use Rattle.nt_apart.proofs.Apcs.{asked_apc, pushed_comm}
+use Rattle.nt_apart.proofs.Timers.{withdrawn_comm}
+
+pub data Part : Type 0 where
+  -- an object is changed, or a thread takes some
+  Changes : (h : ℕ) → (f : Object → Object) → Part
+  Gets : (t : ℕ) → (hs : List ℕ) → Part
+  -- whether a thread may take its APCs
+  Hands : (t : ℕ) → (may : Bool) → Part
+  -- a thread's wait pends no more, or pends from now on
+  Leaves : (t : ℕ) → Part
+  Joins : (t : ℕ) → (w : Wait) → Part
+  -- an APC is queued to a thread, or those of a timer are withdrawn
+  Posts : (t : ℕ) → (routine : ℕ) → (arg : ℕ) → Part
+  Withdraws : (h : ℕ) → Part
+  -- a handle is closed
+  Closes : (h : ℕ) → Part
+
+abbrev pub done : Part → State → State
+done (Changes h f) s = at s h f
+done (Gets t hs) s = record s { objects = take_each s.objects t hs }
+done (Hands t may) s = with_handing s t may
+done (Leaves t) s = pending_no_more s t
+done (Joins t w) s = pending_too s t w
+done (Posts t routine arg) s = apc_queued s t routine arg
+done (Withdraws h) s = record s { apcs = withdrawn s.apcs h }
+done (Closes h) s = handle_closed s h
+
+abbrev pub all_done : List Part → State → State
+all_done [] s = s
+all_done (p ∷ ps) s = all_done ps (done p s)
+
+-- ---- what a part touches
+
+abbrev pub OnObject : Part → ℕ → Type 0
+OnObject (Changes h f) o = h ≡ o
+OnObject (Gets t hs) o = Contains hs o
+OnObject (Joins t w) o = Contains w.objects o
+OnObject _ o = ⊥
+
+-- (what a timer's APCs are is read of state s)
+abbrev pub OnThread : State → Part → ℕ → Type 0
+OnThread s (Hands t may) v = t ≡ v
+OnThread s (Leaves t) v = t ≡ v
+OnThread s (Joins t w) v = t ≡ v
+OnThread s (Posts t routine arg) v = t ≡ v
+OnThread s (Withdraws h) v = has_from h (apc_queue_of s.apcs v) ≡ true
+OnThread s _ v = ⊥
+
+-- whether the thread's wait pends changes
+abbrev pub Moves : Part → ℕ → Type 0
+Moves (Leaves t) v = t ≡ v
+Moves (Joins t w) v = t ≡ v
+Moves _ v = ⊥
+
+abbrev pub SomeOnObject : List Part → ℕ → Type 0
+SomeOnObject [] o = ⊥
+SomeOnObject (p ∷ ps) o = OnObject p o ⊎ SomeOnObject ps o
+
+abbrev pub SomeOnThread : State → List Part → ℕ → Type 0
+SomeOnThread s [] v = ⊥
+SomeOnThread s (p ∷ ps) v = OnThread s p v ⊎ SomeOnThread s ps v
+
+abbrev pub SomeMoves : List Part → ℕ → Type 0
+SomeMoves [] v = ⊥
+SomeMoves (p ∷ ps) v = Moves p v ⊎ SomeMoves ps v
+
+-- ---- two parts in either order
+
+names_none : (h : ℕ) (ks : List ℕ) → (Contains ks h → ⊥) → list_any (λ n. n == h) ks ≡ false
+names_none h ks none = none_equal h ks (λ x m e. none (subst (λ (i : ℕ). Contains ks i) e m))
+
+changes_takes : (s : State) (h u : ℕ) (f : Object → Object) (ks : List ℕ) → (Contains ks h → ⊥) → done (Gets u ks) (done (Changes h f) s) ≡ done (Changes h f) (done (Gets u ks) s)
+changes_takes s h u f ks none = ap (λ (os : List Object). record s { objects = os }) (take_all s.objects h f u ks (names_none h ks none))
+
+leaves_leaves : (s : State) (t u : ℕ) → done (Leaves u) (done (Leaves t) s) ≡ done (Leaves t) (done (Leaves u) s)
+leaves_leaves s t u =
+    ap (λ (m : Pending). record s { waits = m; queues = λ h. others u (others t (s.queues h)) }) (remove_comm s.waits t u)
+    ∙ ap (λ (q : ℕ → List ℕ). record s { waits = map.remove (map.remove s.waits u) t; queues = q }) (fun_ext (λ h. others_comm t u (s.queues h)))
+
+one_key : (t u q : ℕ) → eq_by_cmp nat_cmp q u ≡ true → eq_by_cmp nat_cmp q t ≡ true → t ≡ u
+one_key t u q x y = sym (eqb-true q t (sym (unsigned_tied q t) ∙ y)) ∙ eqb-true q u (sym (unsigned_tied q u) ∙ x)
+
+remove_insert : (m : Pending) (t u : ℕ) (w : Wait) → t ≢ u → map.insert (map.remove m t) u w ≡ map.remove (map.insert m u w) t
+remove_insert m t u w differ = map.same_map nat_cmp_total map.nat_cmp-IsAntisymmetric _ _ each
+  where
+    pick : (q : ℕ) (a b : Bool) → eq_by_cmp nat_cmp q u ≡ a → eq_by_cmp nat_cmp q t ≡ b → cond a (Some w) (cond b None (map.get m q)) ≡ cond b None (cond a (Some w) (map.get m q))
+    pick q true true x y = absurd (differ (one_key t u q x y))
+    pick q true false x y = refl
+    pick q false true x y = refl
+    pick q false false x y = refl
+
+    each : (q : ℕ) → map.get (map.insert (map.remove m t) u w) q ≡ map.get (map.remove (map.insert m u w) t) q
+    each q =
+        map.get-insert nat_cmp_total (map.remove m t) u w q
+        ∙ (ap (λ (o : Option Wait). cond (eq_by_cmp nat_cmp q u) (Some w) o) (map.get-remove nat_cmp_total m t q)
+        ∙ (pick q (eq_by_cmp nat_cmp q u) (eq_by_cmp nat_cmp q t) refl refl
+        ∙ (ap (λ (o : Option Wait). cond (eq_by_cmp nat_cmp q t) None o) (sym (map.get-insert nat_cmp_total m u w q))
+        ∙ sym (map.get-remove nat_cmp_total (map.insert m u w) t q))))
+
+others_last : (t u : ℕ) (q : List ℕ) → t ≢ u → others t (q ++ u ∷ []) ≡ others t q ++ u ∷ []
+others_last t u [] differ = ap (λ (b : Bool). if b then [] else u ∷ []) (same_no u t (λ e. differ (sym e)))
+others_last t u (x ∷ q) differ = go (x == t) (others_last t u q differ)
+  where
+    go : (b : Bool) → others t (q ++ u ∷ []) ≡ others t q ++ u ∷ [] → (if b then others t (q ++ u ∷ []) else x ∷ others t (q ++ u ∷ [])) ≡ (if b then others t q else x ∷ others t q) ++ u ∷ []
+    go true rest = rest
+    go false rest = ap (λ (l : List ℕ). x ∷ l) rest
+
+queue_left : (t u : ℕ) (w : Wait) (q : List ℕ) (h : ℕ) → t ≢ u → (if wait_names w h then others t q ++ u ∷ [] else others t q) ≡ others t (if wait_names w h then q ++ u ∷ [] else q)
+queue_left t u w q h differ = go (wait_names w h)
+  where
+    go : (b : Bool) → (if b then others t q ++ u ∷ [] else others t q) ≡ others t (if b then q ++ u ∷ [] else q)
+    go true = sym (others_last t u q differ)
+    go false = refl
+
+leaves_joins : (s : State) (t u : ℕ) (w : Wait) → t ≢ u → done (Joins u w) (done (Leaves t) s) ≡ done (Leaves t) (done (Joins u w) s)
+leaves_joins s t u w differ =
+    ap (λ (m : Pending). record s { waits = m; queues = λ h. if wait_names w h then others t (s.queues h) ++ u ∷ [] else others t (s.queues h) }) (remove_insert s.waits t u w differ)
+    ∙ ap (λ (q : ℕ → List ℕ). record s { waits = map.remove (map.insert s.waits u w) t; queues = q }) (fun_ext (λ h. queue_left t u w (s.queues h) h differ))
+
+joins_joins : (s : State) (t u : ℕ) (v w : Wait) → t ≢ u → ((o : ℕ) → Contains v.objects o → Contains w.objects o → ⊥) → done (Joins u w) (done (Joins t v) s) ≡ done (Joins t v) (done (Joins u w) s)
+joins_joins s t u v w differ none =
+    ap (λ (m : Pending). record s { waits = m; queues = λ h. if wait_names w h then (if wait_names v h then s.queues h ++ t ∷ [] else s.queues h) ++ u ∷ [] else (if wait_names v h then s.queues h ++ t ∷ [] else s.queues h) }) (inserts_comm s.waits t u v w differ)
+    ∙ ap (λ (q : ℕ → List ℕ). record s { waits = map.insert (map.insert s.waits u w) t v; queues = q }) (fun_ext (λ h. queue_comm (s.queues h) t u v w h (λ o m. names_none o w.objects (none o m))))
+
+posts_posts : (s : State) (t u x y x' y' : ℕ) → t ≢ u → done (Posts u x' y') (done (Posts t x y) s) ≡ done (Posts t x y) (done (Posts u x' y') s)
+posts_posts s t u x y x' y' differ = ap (λ (qs : List (List Queued)). record s { apcs = qs }) (pushed_comm s.apcs t u (asked_apc x y) (asked_apc x' y') differ)
+
+filter_last : (p : Queued → Bool) (l : List Queued) (q : Queued) → p q ≡ true → filter p (l ++ q ∷ []) ≡ filter p l ++ q ∷ []
+filter_last p [] q e = ap (λ (b : Bool). if b then q ∷ [] else []) e
+filter_last p (x ∷ l) q e = go (p x) (filter_last p l q e)
+  where
+    go : (b : Bool) → filter p (l ++ q ∷ []) ≡ filter p l ++ q ∷ [] → (if b then x ∷ filter p (l ++ q ∷ []) else filter p (l ++ q ∷ [])) ≡ (if b then x ∷ filter p l else filter p l) ++ q ∷ []
+    go true rest = ap (λ (xs : List Queued). x ∷ xs) rest
+    go false rest = rest
+
+withdrawn_pushed : (qs : List (List Queued)) (t h x y : ℕ) → withdrawn (pushed qs t (asked_apc x y)) h ≡ pushed (withdrawn qs h) t (asked_apc x y)
+withdrawn_pushed [] t h x y = refl
+withdrawn_pushed (l ∷ qs) zero h x y = ap (λ (z : List Queued). z ∷ withdrawn qs h) (filter_last (λ q. not (is_from h q.timer)) l (asked_apc x y) refl)
+withdrawn_pushed (l ∷ qs) (suc t) h x y = ap (λ (zs : List (List Queued)). without_from h l ∷ zs) (withdrawn_pushed qs t h x y)
+
+posts_withdraws : (s : State) (t h x y : ℕ) → done (Withdraws h) (done (Posts t x y) s) ≡ done (Posts t x y) (done (Withdraws h) s)
+posts_withdraws s t h x y = ap (λ (qs : List (List Queued)). record s { apcs = qs }) (withdrawn_pushed s.apcs t h x y)
+
+closes_closes : (hs : List (Option Opened)) (h k : ℕ) → slice_set (slice_set hs h None) k None ≡ slice_set (slice_set hs k None) h None
+closes_closes hs h k = elim (cases_eq h k) [
+  | inl same ↦ subst (λ (n : ℕ). slice_set (slice_set hs h None) n None ≡ slice_set (slice_set hs n None) h None) same refl
+  | inr differs ↦ set_comm hs h k None None differs
+]
+
+pub parts_commute : (r : State) (p q : Part) (s : State) → ((o : ℕ) → OnObject p o → OnObject q o → ⊥) → ((v : ℕ) → OnThread r p v → OnThread r q v → ⊥) → done q (done p s) ≡ done p (done q s)
+parts_commute r (Changes h f) (Changes k g) s os ts = sym (changes_commute s h k f g (λ e. os k e refl))
+parts_commute r (Changes h f) (Gets u ks) s os ts = changes_takes s h u f ks (λ m. os h refl m)
+parts_commute r (Gets t hs) (Changes k g) s os ts = sym (changes_takes s k t g hs (λ m. os k m refl))
+parts_commute r (Gets t hs) (Gets u ks) s os ts = ap (λ (x : List Object). record s { objects = x }) (each_comm s.objects t u hs ks (λ x y m n e. os y (subst (λ (i : ℕ). Contains hs i) e m) n))
+parts_commute r (Hands t a) (Hands u b) s os ts = ap (λ (x : List Bool). record s { handing = x }) (set_comm s.handing t u a b (λ e. ts u e refl))
+parts_commute r (Leaves t) (Leaves u) s os ts = leaves_leaves s t u
+parts_commute r (Leaves t) (Joins u w) s os ts = leaves_joins s t u w (λ e. ts u e refl)
+parts_commute r (Joins t v) (Leaves u) s os ts = sym (leaves_joins s u t v (λ e. ts u (sym e) refl))
+parts_commute r (Joins t v) (Joins u w) s os ts = joins_joins s t u v w (λ e. ts u e refl) os
+parts_commute r (Posts t x y) (Posts u x' y') s os ts = posts_posts s t u x y x' y' (λ e. ts u e refl)
+parts_commute r (Posts t x y) (Withdraws h) s os ts = posts_withdraws s t h x y
+parts_commute r (Withdraws h) (Posts t x y) s os ts = sym (posts_withdraws s t h x y)
+parts_commute r (Withdraws h) (Withdraws k) s os ts = ap (λ (qs : List (List Queued)). record s { apcs = qs }) (withdrawn_comm s.apcs k h)
+parts_commute r (Closes h) (Closes k) s os ts = ap (λ (hs : List (Option Opened)). record s { handles = hs }) (closes_closes s.handles h k)
+parts_commute r _ _ s os ts = refl
+
+pub past : (r : State) (p : Part) (qs : List Part) (s : State) → ((o : ℕ) → OnObject p o → SomeOnObject qs o → ⊥) → ((v : ℕ) → OnThread r p v → SomeOnThread r qs v → ⊥) → all_done qs (done p s) ≡ done p (all_done qs s)
+past r p [] s os ts = refl
+past r p (q ∷ qs) s os ts = ap (λ (x : State). all_done qs x) (parts_commute r p q s (λ o m n. os o m (inl n)) (λ v m n. ts v m (inl n))) ∙ past r p qs (done q s) (λ o m n. os o m (inr n)) (λ v m n. ts v m (inr n))
+
+pub lists_commute : (r : State) (ps qs : List Part) (s : State) → ((o : ℕ) → SomeOnObject ps o → SomeOnObject qs o → ⊥) → ((v : ℕ) → SomeOnThread r ps v → SomeOnThread r qs v → ⊥) → all_done qs (all_done ps s) ≡ all_done ps (all_done qs s)
+lists_commute r [] qs s os ts = refl
+lists_commute r (p ∷ ps) qs s os ts = lists_commute r ps qs (done p s) (λ o m n. os o (inr m) n) (λ v m n. ts v (inr m) n) ∙ ap (λ (x : State). all_done ps x) (past r p qs s (λ o m n. os o (inl m) n) (λ v m n. ts v (inl m) n))
+
+-- ---- a piece in parts
+
+abbrev pub in_parts : List Piece → List Part
+in_parts [] = []
+in_parts (Alters h f ∷ ps) = Changes h f ∷ in_parts ps
+in_parts (Ends t hs ∷ ps) = Gets t hs ∷ Hands t false ∷ Leaves t ∷ in_parts ps
+
+pub in_parts_is : (ps : List Piece) (s : State) → all_made ps s ≡ all_done (in_parts ps) s
+in_parts_is [] s = refl
+in_parts_is (Alters h f ∷ ps) s = in_parts_is ps (at s h f)
+in_parts_is (Ends t hs ∷ ps) s = in_parts_is ps (made (Ends t hs) s)

@@ -1,0 +1,112 @@
+-- A wait that begins is made of parts that touch its objects and its thread alone, and of the same parts in a state that is alike.
+use Rattle.std.proofs.Common.{◌≡◌, inl, inr, ℕ, Bool, true, false, ◌&&◌, List, [], ◌∷◌, refl, sym, ap, ◌∙◌, subst, Contains}
+use Rattle.std.specs.Prelude.{◌==◌}
+use Rattle.std.specs.List.{list_any}
+use Rattle.nt_objects.specs.declared.object.Object.{Object}
+use Rattle.nt_waits.specs.declared.wait.Wait.{Wait}
+use Rattle.nt_apc.specs.declared.apc.Queued.{Queued}
+use Rattle.nt_apc.specs.Queues.{has_apc}
+use Rattle.nt_calls.specs.declared.call.Call.{Call}
+use Rattle.nt_calls.specs.declared.call.WaitCall.{WaitCall}
+use Rattle.nt_calls.specs.declared.call.Reply.{Reply}
+use Rattle.nt_calls.specs.declared.call.Grant.{Grant}
+use Rattle.nt_calls.specs.State.{State, object_at, pends, with_handing}
+use Rattle.nt_calls.specs.Serving.{fits}
+use Rattle.nt_calls.specs.Steps.{Step, begun, asked_wait, timeout_of}
+use Rattle.nt_apart.specs.Apart.{only_waits, IsQuiet}
+use Rattle.nt_apart.proofs.Waits.{How, Takes, Rouses, TimesOut, Pends, how as how_by, how_of, came, answer, effect, begun_is, takes_if, takes_is, picked, picked_named, picked_agree, fits_agree, status_agree}
+use Rattle.nt_apart.proofs.Waiting.{wait_step, make_wait, quiet_begun}
+use Rattle.nt_apart.proofs.Reach.{is_named}
+use Rattle.nt_apart.proofs.Parts.{Part, Gets, Hands, Joins, all_done, SomeOnObject, SomeOnThread, SomeMoves}
+use Rattle.nt_apart.proofs.PartsOfCalls.{IsFrom, AlikeFor, IsMade}
+
+-- how the wait begins, in parts
+abbrev parts_by : How → List ℕ → ℕ → Wait → List Part
+parts_by Takes hs t w = Gets t hs ∷ Hands t false ∷ []
+parts_by Rouses hs t w = Hands t true ∷ []
+parts_by TimesOut hs t w = Hands t false ∷ []
+parts_by Pends hs t w = Joins t w ∷ []
+
+effect_is : (h : How) (x : State) (t : ℕ) (w : Wait) → effect h x t w ≡ all_done (parts_by h (picked x.objects t w) t w) x
+effect_is Takes x t w = ap (λ (os : List Object). record (with_handing x t false) { objects = os }) (takes_is x.objects t w)
+effect_is Rouses x t w = refl
+effect_is TimesOut x t w = refl
+effect_is Pends x t w = refl
+
+answer_alike : (h : How) (ys xs : List Object) (t : ℕ) (w : Wait) → ((o : ℕ) → Contains w.objects o → object_at ys o ≡ object_at xs o) → (h ≡ Takes → fits xs t w ≡ true) → answer h ys t w ≡ answer h xs t w
+answer_alike Takes ys xs t w agree fit = ap (λ (c : ℕ). Reply.Status c) (status_agree ys xs t w agree (fit refl))
+answer_alike _ ys xs t w agree fit = refl
+
+parts_name : (h : How) (os : List Object) (t : ℕ) (w : Wait) → (h ≡ Takes → fits os t w ≡ true) → (o : ℕ) → SomeOnObject (parts_by h (picked os t w) t w) o → Contains w.objects o
+parts_name Takes os t w fit o (inl m) = picked_named os t w (fit refl) o m
+parts_name Takes os t w fit o (inr (inl none)) = absurd none
+parts_name Takes os t w fit o (inr (inr none)) = absurd none
+parts_name Rouses os t w fit o (inl none) = absurd none
+parts_name Rouses os t w fit o (inr none) = absurd none
+parts_name TimesOut os t w fit o (inl none) = absurd none
+parts_name TimesOut os t w fit o (inr none) = absurd none
+parts_name Pends os t w fit o (inl m) = m
+parts_name Pends os t w fit o (inr none) = absurd none
+
+parts_of_thread : (s : State) (h : How) (hs : List ℕ) (t : ℕ) (w : Wait) (v : ℕ) → SomeOnThread s (parts_by h hs t w) v → v ≡ t
+parts_of_thread s Takes hs t w v (inl none) = absurd none
+parts_of_thread s Takes hs t w v (inr (inl e)) = sym e
+parts_of_thread s Takes hs t w v (inr (inr none)) = absurd none
+parts_of_thread s Rouses hs t w v (inl e) = sym e
+parts_of_thread s Rouses hs t w v (inr none) = absurd none
+parts_of_thread s TimesOut hs t w v (inl e) = sym e
+parts_of_thread s TimesOut hs t w v (inr none) = absurd none
+parts_of_thread s Pends hs t w v (inl e) = sym e
+parts_of_thread s Pends hs t w v (inr none) = absurd none
+
+moves_caller : (h : How) (hs : List ℕ) (t : ℕ) (w : Wait) (v : ℕ) → SomeMoves (parts_by h hs t w) v → t ≡ v
+moves_caller Takes hs t w v (inl none) = absurd none
+moves_caller Takes hs t w v (inr (inl none)) = absurd none
+moves_caller Takes hs t w v (inr (inr none)) = absurd none
+moves_caller Rouses hs t w v (inl none) = absurd none
+moves_caller Rouses hs t w v (inr none) = absurd none
+moves_caller TimesOut hs t w v (inl none) = absurd none
+moves_caller TimesOut hs t w v (inr none) = absurd none
+moves_caller Pends hs t w v (inl e) = e
+moves_caller Pends hs t w v (inr none) = absurd none
+
+pub wait_made : (s x y new : State) (t : ℕ) (wait : WaitCall) (r : Reply) (gs : List Grant) → only_waits wait ≡ true → IsFrom s t (Call.Wait wait) x → IsQuiet y → pends y t ≡ false → AlikeFor s t (Call.Wait wait) x y → Step x t (Call.Wait wait) r gs new → IsMade s x y new t (Call.Wait wait) r gs
+wait_made s x y new t wait r gs only from quiet idle alike step =
+    let w : Wait = asked_wait s.now wait in
+    let ms = timeout_of wait in
+    let agree : (o : ℕ) → Contains w.objects o → object_at y.objects o ≡ object_at x.objects o = λ o m. alike.objects o (is_named o w.objects m) in
+    let how : How = how_of x t w ms in
+    let how_y : How = how_of y t w ms in
+    let takes : how ≡ Takes → fits x.objects t w ≡ true = takes_if x t w ms in
+    let hs : List ℕ = picked x.objects t w in
+    let ps : List Part = parts_by how hs t w in
+    let one = wait_step x new t wait r gs only from.quiet step in
+    let begun_x : ◌≡◌ {A = Reply × State} (begun x t (asked_wait x.now wait) ms) (answer how x.objects t w, all_done ps x) =
+    ap {B = Reply × State} (λ (i : ℕ). begun x t (asked_wait i wait) ms) from.now
+    ∙ (begun_is x t w ms ∙ ap {B = Reply × State} (λ (z : State). (answer how x.objects t w, z)) (effect_is how x t w)) in
+    let same_how : how_y ≡ how =
+    ap (λ (b : Bool). how_by b (w.alertable && has_apc y.apcs t) (ms == 0)) (fits_agree y.objects x.objects t w agree)
+    ∙ ap (λ (l : List Queued). how_by (fits x.objects t w) (w.alertable && list_any (λ _. true) l) (ms == 0)) (alike.apcs t refl) in
+    let begun_y : ◌≡◌ {A = Reply × State} (begun y t (asked_wait y.now wait) ms) (answer how x.objects t w, all_done ps y) =
+    ap {B = Reply × State} (λ (i : ℕ). begun y t (asked_wait i wait) ms) (alike.now ∙ from.now)
+    ∙ (begun_is y t w ms
+    ∙ (ap {B = Reply × State} (λ (h : How). came h y t w) same_how
+    ∙ (ap {B = Reply × State} (λ (z : State). (answer how y.objects t w, z)) (effect_is how y t w)
+    ∙ (ap {B = Reply × State} (λ (ks : List ℕ). (answer how y.objects t w, all_done (parts_by how ks t w) y)) (picked_agree y.objects x.objects t w agree)
+    ∙ ap {B = Reply × State} (λ (a : Reply). (a, all_done ps y)) (answer_alike how y.objects x.objects t w agree takes))))) in
+    let b : Reply × State = begun y t (asked_wait y.now wait) ms in
+    let quiet_b : IsQuiet b.1 = quiet_begun y t (asked_wait y.now wait) ms quiet in
+    let leads : b.1 ≡ all_done ps y = ap (λ (z : Reply × State). z.1) begun_y in
+    let both : ◌≡◌ {A = Reply × State} (r, new) (answer how x.objects t w, all_done ps x) = one.answers ∙ begun_x in
+    let told : b.0 ≡ r = ap (λ (z : Reply × State). z.0) begun_y ∙ sym (ap (λ (z : Reply × State). z.0) both) in
+    record {
+      parts = ps;
+      state = ap (λ (z : Reply × State). z.1) both;
+      step = subst (λ (z : State). Step y t (Call.Wait wait) r gs z) leads
+          (subst (λ (a : Reply). Step y t (Call.Wait wait) a gs b.1) told
+          (subst (λ (l : List Grant). Step y t (Call.Wait wait) b.0 l b.1) (sym one.grants) (make_wait y t wait only quiet)));
+      quiet = subst IsQuiet leads quiet_b;
+      objects = λ o m. is_named o w.objects (parts_name how x.objects t w takes o m);
+      threads = λ v m. parts_of_thread s how hs t w v m;
+      idle = λ v m. inl (subst (λ (i : ℕ). pends y i ≡ false) (moves_caller how hs t w v m) idle);
+    }
