@@ -17,3 +17,5 @@ pub mod Alike
 pub mod PartsOfCalls
 pub mod PartsOfWaits
 pub mod Footprint
+pub mod Closed
+pub mod Closing

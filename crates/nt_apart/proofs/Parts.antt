@@ -166,7 +166,7 @@ withdrawn_pushed (l ∷ qs) (suc t) h x y = ap (λ (zs : List (List Queued)). wi
 posts_withdraws : (s : State) (t h x y : ℕ) → done (Withdraws h) (done (Posts t x y) s) ≡ done (Posts t x y) (done (Withdraws h) s)
 posts_withdraws s t h x y = ap (λ (qs : List (List Queued)). record s { apcs = qs }) (withdrawn_pushed s.apcs t h x y)
 
-closes_closes : (hs : List (Option Opened)) (h k : ℕ) → slice_set (slice_set hs h None) k None ≡ slice_set (slice_set hs k None) h None
+pub closes_closes : (hs : List (Option Opened)) (h k : ℕ) → slice_set (slice_set hs h None) k None ≡ slice_set (slice_set hs k None) h None
 closes_closes hs h k = elim (cases_eq h k) [
   | inl same ↦ subst (λ (n : ℕ). slice_set (slice_set hs h None) n None ≡ slice_set (slice_set hs n None) h None) same refl
   | inr differs ↦ set_comm hs h k None None differs

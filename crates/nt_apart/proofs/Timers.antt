@@ -121,7 +121,7 @@ set_so now t (Act.SetTimer h due period routine) o u e = unset_so (Some (record 
 set_so now t (Act.CancelTimer h) o u e = rearmed_so None o u e
 set_so now t _ o u e = e
 
-unready : (f : Object → Object) → ((o : Object) (u : ℕ) → signaled o u ≡ false → signaled (f o) u ≡ false) → (os : List Object) (h u k : ℕ) → is_ready os u k ≡ false → is_ready (with_object os h f) u k ≡ false
+pub unready : (f : Object → Object) → ((o : Object) (u : ℕ) → signaled o u ≡ false → signaled (f o) u ≡ false) → (os : List Object) (h u k : ℕ) → is_ready os u k ≡ false → is_ready (with_object os h f) u k ≡ false
 unready f kept [] h u k e = e
 unready f kept (o ∷ os) zero u zero e = kept o u e
 unready f kept (o ∷ os) zero u (suc k) e = e
@@ -141,7 +141,7 @@ both_true : (a b c : Bool) → (b ≡ true → c ≡ true) → (a && b) ≡ true
 both_true true b c on e = on e
 both_true false b c on e = e
 
-calm_so : (s : State) (h : ℕ) (f : Object → Object) → ((u : ℕ) → IsAlerted s u → ⊥) → (u : ℕ) → IsAlerted (timed s h f) u → ⊥
+pub calm_so : (s : State) (h : ℕ) (f : Object → Object) → ((u : ℕ) → IsAlerted s u → ⊥) → (u : ℕ) → IsAlerted (timed s h f) u → ⊥
 calm_so s h f calm u alerted =
     calm u (alerted.0, alerted.1, both_true alerted.0.alertable (has_apc (withdrawn s.apcs h) u) (has_apc s.apcs u) (had_apc s.apcs h u) alerted.2)
 

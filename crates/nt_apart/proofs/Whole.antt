@@ -138,7 +138,7 @@ forgotten_other s a o =
     ∙ (ap (λ g. (nat_lt o (length s.objects) && not g) && not (is_opened s o || (is_awaited s o || (nat_lt o s.threads && not (has_ended (object_at new o)))))) gone
     ∙ ap (λ e. (nat_lt o (length s.objects) && not (is_gone (object_at s.objects o))) && not (is_opened s o || (is_awaited s o || (nat_lt o s.threads && not e)))) ended)
 
-none_forgotten : (s : State) → LivesWhileKept s → (o : ℕ) → is_forgotten s o ≡ false
+pub none_forgotten : (s : State) → LivesWhileKept s → (o : ℕ) → is_forgotten s o ≡ false
 none_forgotten s living o = ap (λ b. b && not (is_kept s o)) (living o) ∙ kept_or_gone (is_kept s o)
 
 ends_go : (left new : State) (os : List ℕ) → ((o : ℕ) → is_forgotten left o ≡ false) → AreRising (λ o. is_forgotten left o ≡ true) os → new ≡ all_gone left os → new ≡ left

@@ -18,6 +18,7 @@
 //! | `two_timers_commute` | two timers that are set for later moments or cancelled |
 //! | `signals_commute_with_timers`, `timers_commute_with_signals` | an act that may end waits, and a timer that is set for later or cancelled |
 //! | `steps_apart_commute` | any two of these steps, and closes of handles, whose footprints have no object and no thread in common |
+//! | `two_closes_commute` | two handles that are closed, as whole calls, with the objects that end |
 //! | `fewer_lanes_are_enough` | a search that leaves lanes out meets a shortest hang, if the lanes that it tries are enough |
 //!
 //! A law is the contract of a function that takes nothing and does nothing, as in `nt_laws`.
@@ -31,6 +32,6 @@ pub use steps::{
     apcs_commute_with_signals, apcs_to_two_threads_commute, calls_on_two_objects_commute,
     changes_of_two_objects_commute, signals_commute, signals_commute_with_apcs,
     signals_commute_with_timers, steps_apart_commute, timers_commute_with_signals,
-    two_timers_commute, waits_begin_beside_changes, waits_begin_in_either_order,
-    waits_commute_with_changes, waking_commutes,
+    two_closes_commute, two_timers_commute, waits_begin_beside_changes,
+    waits_begin_in_either_order, waits_commute_with_changes, waking_commutes,
 };

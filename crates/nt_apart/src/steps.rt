@@ -6,6 +6,7 @@ ghost use Rattle.nt_apart.specs.ApcsBeside.{SignalsCommuteWithApcs, ApcsCommuteW
 ghost use Rattle.nt_apart.specs.Timers.{TwoTimersCommute};
 ghost use Rattle.nt_apart.specs.TimersBeside.{SignalsCommuteWithTimers, TimersCommuteWithSignals};
 ghost use Rattle.nt_apart.specs.Footprint.{StepsApartCommute};
+ghost use Rattle.nt_apart.specs.Closing.{TwoClosesCommute};
 
 /// Two acts that change one object each, not the same, that no pending wait names, may be made in either order: the replies are the same, no
 /// wait ends, and the state after both is the same.
@@ -81,4 +82,9 @@ pub fn timers_commute_with_signals()
 /// queue an APC, set a timer for later, cancel one, or close a handle.
 pub fn steps_apart_commute()
     ensures { StepsApartCommute }
+{}
+
+/// Two handles may be closed in either order, as whole calls, whether or not an object ends with either.
+pub fn two_closes_commute()
+    ensures { TwoClosesCommute }
 {}
