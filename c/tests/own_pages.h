@@ -6,7 +6,7 @@
 #define LOOKS_AT_LOCK 1
 #define LOOKS_AT_WORD 1
 #define WAITS_PER_TRY 4096
-#define RETRY_MS 1
+#define RETRY_MS 100 /* (longer than MS_UNTIL_A_LOOK: so who tries again is seen to sleep, and not stepped for good) */
 #include "step.h"
 
 #define NTWIN_ONE_UNIT /* (as ntwin.c has it) */
