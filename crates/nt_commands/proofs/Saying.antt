@@ -37,9 +37,9 @@ part_of_front a b text more whole p e =
     subst (AppendsPart a b) e (n, within, subst (Appends a b) (sym same) p.2)
 
 -- what was written was said
-pub WritesBytes-said : {X E : Type 0} (a b : Writing) (text : List ℕ) (result : Result X E) → WritesBytes a b text result → Says a b text
-WritesBytes-said a b text (Ok x) p = inl p
-WritesBytes-said a b text (Err e) p = inr p
+pub bytes_said : {X E : Type 0} (a b : Writing) (text : List ℕ) (result : Result X E) → WritesBytes a b text result → Says a b text
+bytes_said a b text (Ok x) p = inl p
+bytes_said a b text (Err e) p = inr p
 
 -- a message in two pieces
 pub message_pieces : (fault : RunFault) (line : ℕ) (reason : List ℕ) → line ≡ line_number fault → reason ≡ reason_of fault

@@ -13,6 +13,7 @@ pub(crate) const USAGE: &str = "ntrun: usage: ntrun script FILE or ntrun threads
 pub(crate) const OUT_OF_MEMORY: &str = "ntrun: out of memory";
 
 /// Says a line, and answers the exit status that goes with it. A failure to say it is ignored.
+#[tactic(auto, using(crate::proofs::Saying::bytes_said))]
 pub fn say<E: Sink>(errors: &mut E, line: &str, status: u8) -> u8
     ensures status { result ≡ status }
     ensures said { Says (E.seen errors.old) (E.seen errors.new) (with_feed line.now) }
@@ -22,6 +23,7 @@ pub fn say<E: Sink>(errors: &mut E, line: &str, status: u8) -> u8
 }
 
 /// Says why a run ended. A failure to say it is ignored.
+#[tactic(auto, using(crate::proofs::Saying::bytes_said))]
 pub fn tell<E: Sink>(errors: &mut E, fault: RunFault)
     ensures { Says (E.seen errors.old) (E.seen errors.new) (run_message fault) }
 {

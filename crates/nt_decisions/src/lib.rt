@@ -13,10 +13,8 @@
 
 mod decision;
 mod file;
-mod law;
 mod writing;
 
 pub use decision::{Chosen, Decision, read_decision};
 pub use file::{FileFault, Schedule, Time, read_schedule};
-pub use law::written_is_read;
-pub use writing::write_schedule;
+pub use writing::{write_schedule, written_is_read};

@@ -2,7 +2,7 @@
 
 ghost use Rattle.std.specs.Prelude.{◌≡◌, ◌++◌, ◌∷◌, [], OnOk, IfOk, decimal};
 ghost use Rattle.nt_grammar.specs.Spelling.{caller_word};
-ghost use Rattle.nt_decisions.specs.Decisions.{chosen_word, decision_text, lines_text, word_if, first_text, file_text};
+ghost use Rattle.nt_decisions.specs.Decisions.{WrittenIsRead, chosen_word, decision_text, lines_text, word_if, first_text, file_text};
 
 use crate::decision::{CLOCK, Chosen, Decision};
 use crate::file::{FIRST_LINE, Time};
@@ -84,3 +84,9 @@ pub fn write_schedule(
     put_decisions(&mut out, decisions)?;
     Ok(out)
 }
+
+/// What is read of a file that was written is what was written, if each of its numbers has nine digits at the most.
+#[tactic(auto, using(crate::proofs::Written::file_back))]
+pub fn written_is_read()
+    ensures { WrittenIsRead }
+{}

@@ -72,3 +72,7 @@ can_uncounted (e ∷ es) s =
       λ c. (one.there c.0, more.0 (subst (λ (x : Protocol.State). Can step x es) one.after c.1)),
       λ c. (one.back c.0, subst (λ (x : Protocol.State). Can step x es) (sym one.after) (more.1 c.1)),
     )
+
+pub opening_uncounted : (es : List Protocol.Event)
+    → (Can step Protocol.opening es → Can Protocol.step Protocol.opening es) × (Can Protocol.step Protocol.opening es → Can step Protocol.opening es)
+opening_uncounted es = can_uncounted es Protocol.opening

@@ -4,12 +4,10 @@
 //! Threads wait at an address, and others unpark them. What a run and an event stand for is in `specs/ParkTrace.antt`.
 #![tactic(auto)]
 
-mod law;
 mod park;
 mod park_names;
 mod park_run;
 mod park_steps;
 
-pub use law::counts_tell_nothing;
 pub use park::{MOST_PARKED, ParkEvent, ParkKind, ParkPlace, ParkSeat, ParkStanding};
-pub use park_run::ParkRun;
+pub use park_run::{ParkRun, counts_tell_nothing};

@@ -5,7 +5,7 @@ ghost use Rattle.nt_protocols.specs.Parking as Protocol;
 ghost use Rattle.nt_protocols.specs.Threads.{put};
 ghost use Rattle.nt_park_traces.specs.declared.park.TheConstants.{MOST_PARKED};
 ghost use Rattle.nt_park_traces.specs.ParkMoves.{HasUnparked, NobodyCounts};
-ghost use Rattle.nt_park_traces.specs.ParkTrace.{outside, place_of, seat_of, standing_of, state_of, uncounted, uncounted_seat};
+ghost use Rattle.nt_park_traces.specs.ParkTrace.{AsIfCounted, outside, place_of, seat_of, standing_of, state_of, uncounted, uncounted_seat};
 
 use crate::park::{ParkPlace, ParkSeat, ParkStanding};
 
@@ -346,3 +346,9 @@ impl ParkRun {
         self.owe(t, u, false);
     }
 }
+
+/// A run is one of the protocol whether unparks and answers are counted or not.
+#[tactic(auto, using(crate::proofs::ParkCounts::opening_uncounted))]
+pub fn counts_tell_nothing()
+    ensures { AsIfCounted }
+{}

@@ -84,7 +84,7 @@ pub fn drive<D: Door + Send, R: Threads + Wait + Sync>(
 }
 
 /// The first, and the others.
-#[tactic(auto, using(crate::proofs::Firsts::first_and_rest))]
+#[tactic(auto, using(crate::proofs::Firsts::first_and_rest, crate::proofs::Firsts::empty_of_length))]
 fn parted<T: Drop>(mut items: Vec<T>) -> Option<(T, Vec<T>)>
     ensures some { IfSome result (λ r. items.items ≡ r.0 ∷ r.1.items) }
     ensures none { IfNone result (items.items ≡ []) }

@@ -7,7 +7,6 @@
 #![tactic(auto)]
 
 mod entry;
-mod law;
 mod lines;
 mod reading;
 mod word;
@@ -16,7 +15,6 @@ mod word_run;
 mod word_steps;
 
 pub use entry::MAX_THREADS;
-pub use law::counts_tell_nothing;
 pub use reading::{TraceFault, TraceVerdict, read_trace};
 pub use word::{MOST_SEATS, WordEvent, WordKind, WordPlace, WordSeat, WordValue};
-pub use word_run::WordRun;
+pub use word_run::{WordRun, counts_tell_nothing};

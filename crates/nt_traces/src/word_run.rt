@@ -4,7 +4,7 @@ ghost use Rattle.std.specs.Prelude.{◌≡◌, ◌<◌, ◌↔◌, ◌+◌, ◌|
 ghost use Rattle.nt_protocols.specs.Word as Protocol;
 ghost use Rattle.nt_protocols.specs.Threads.{put};
 ghost use Rattle.nt_traces.specs.declared.word.TheConstants.{MOST_SEATS};
-ghost use Rattle.nt_traces.specs.WordTrace.{outside, owing, place_of, seat_of, state_of, uncounted, uncounted_seat, word_of};
+ghost use Rattle.nt_traces.specs.WordTrace.{AsIfCounted, outside, owing, place_of, seat_of, state_of, uncounted, uncounted_seat, word_of};
 
 use crate::word::{WordPlace, WordSeat, WordValue};
 
@@ -308,3 +308,9 @@ impl WordRun {
         self.becomes(u, WordSeat { place, ..seat });
     }
 }
+
+/// A run is one of the protocol whether grants and answers are counted or not.
+#[tactic(auto, using(crate::proofs::WordCounts::opening_uncounted))]
+pub fn counts_tell_nothing()
+    ensures { AsIfCounted }
+{}
