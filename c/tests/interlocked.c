@@ -117,12 +117,15 @@ static void tests_of_bits(void)
     BIT_ROW(LONG, 0, 0, InterlockedBitTestAndSet(&at[0], 31), 0, INT32_MIN, 0);
     BIT_ROW(LONG, -1, 0, InterlockedBitTestAndSet(&at[0], 3), 1, -1, 0);
     BIT_ROW(LONG, 0, 0, InterlockedBitTestAndSet(&at[0], 33), 0, 0, 2);
+    BIT_ROW(LONG, 0, 0, InterlockedBitTestAndSet(&at[1], -1), 0, INT32_MIN, 0);
+    BIT_ROW(LONG, -1, -1, InterlockedBitTestAndReset(&at[1], -32), 1, -2, -1);
     BIT_ROW(LONG, -1, -1, InterlockedBitTestAndReset(&at[0], 0), 1, -2, -1);
     BIT_ROW(LONG, 0, 0, InterlockedBitTestAndReset(&at[0], 5), 0, 0, 0);
     BIT_ROW(LONG, 0, 0, _interlockedbittestandset(&at[0], 1), 0, 2, 0);
     BIT_ROW(LONG, 2, 0, _interlockedbittestandreset(&at[0], 1), 1, 0, 0);
     BIT_ROW(LONG64, 0, 0, InterlockedBitTestAndSet64(&at[0], 63), 0, INT64_MIN, 0);
     BIT_ROW(LONG64, 0, 0, InterlockedBitTestAndSet64(&at[0], 64), 0, 0, 1);
+    BIT_ROW(LONG64, 0, 0, InterlockedBitTestAndSet64(&at[1], -64), 0, 1, 0);
     BIT_ROW(LONG64, -1, 0, InterlockedBitTestAndReset64(&at[0], 62), 1, -1 ^ INT64_C(1) << 62, 0);
     BIT_ROW(LONG64, 0, 0, _interlockedbittestandset64(&at[0], 40), 0, INT64_C(1) << 40, 0);
 }

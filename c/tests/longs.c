@@ -1,5 +1,6 @@
 /* The interlocked calls with the address of a `long`, in C and in C++: of one, and of a LONG that a program has cast, as sources for Windows do. The
  * words beside a LONG stay as they are. */
+#include <intrin.h>
 #include <windows.h>
 
 #include "check.h"
@@ -144,6 +145,40 @@ static void whole_longs(void)
     IS(positive, 0xFFFFFFFFuL);
 }
 
+/* The names that begin with _ do so too, in C and in C++. */
+static void whole_longs_by_intrinsics(void)
+{
+    signed_long volatile at = 0;
+    IS(_InterlockedDecrement(&at), -1L);
+    IS(_InterlockedIncrement(&at), 0);
+    IS(_InterlockedExchange(&at, 0x100000000L), 0);
+    IS(_InterlockedExchangeAdd(&at, -1), 0x100000000L);
+    IS(_InterlockedCompareExchange(&at, -5, 0xFFFFFFFFL), 0xFFFFFFFFL);
+    IS(_InterlockedAnd(&at, 0x7000000FFL), -5L);
+    IS(_InterlockedOr(&at, 0x100000004L), 0x7000000FBL);
+    IS(_InterlockedXor(&at, -1L), 0x7000000FFL);
+    IS(at, ~0x7000000FFL);
+}
+
+/* The number of a bit is written as a whole. */
+static void scans_to_longs(void)
+{
+    unsigned_long at = ~0uL;
+    IS(_BitScanForward(&at, 0x90), 1);
+    IS(at, 4);
+    at = ~0uL;
+    IS(_BitScanReverse(&at, 0x90), 1);
+    IS(at, 7);
+    at = ~0uL;
+    IS(BitScanForward64(&at, UINT64_C(1) << 40), 1);
+    IS(at, 40);
+    at = ~0uL;
+    IS(_BitScanReverse64(&at, UINT64_C(3) << 62), 1);
+    IS(at, 63);
+    IS(_BitScanReverse(&at, 0), 0);
+    IS(at, 63);
+}
+
 /* At a multiple of 8 where the compiler knows no size 64 bits are changed: so the word behind it is a part of the `long`. */
 __attribute__((__noinline__)) static void unknown_at_multiple(struct words *words)
 {
@@ -174,5 +209,7 @@ int main(void)
 #endif
     unknown_at_multiple(&words);
     whole_longs();
+    whole_longs_by_intrinsics();
+    scans_to_longs();
     return counted();
 }

@@ -218,6 +218,7 @@ static void texts(void)
     IS(lstrcpyW(wide, L"ab") == wide && lstrcatW(wide, L"cd") == wide && lstrlenW(wide) == 4 && lstrcmpW(wide, L"abcd") == 0, 1);
     IS(lstrcpynW(wide, L"xyz", 3) == wide && lstrcmpiW(wide, L"XY") == 0, 1);
     IS(lstrcmpA("a", "b") < 0 && lstrcmp("b", "a") > 0 && lstrcmpA("a", "a") == 0, 1);
+    IS(lstrcmpA("\xC3\xA9", "z") > 0 && lstrcmpiA("Z", "\xC3\xA9") < 0, 1);
     IS(lstrcmpiA("Event", "eVENT") == 0 && lstrcmpi("a", "B") < 0 && lstrcmpA(NULL, "") < 0, 1);
 }
 

@@ -2,7 +2,8 @@
 /* The interlocked calls and memory barriers. Each is one atomic step. It orders all that comes before and after; Acquire, Release and NoFence
  * at the end of a name order as much as they say. Increment, Decrement and Add answer the value after, the others the value before.
  *
- * In C the plain names take a `long` or an `unsigned long` too; in C++ they are overloaded for all integers of 32 and 64 bits. */
+ * In C the plain names, and those that begin with _, take a `long` or an `unsigned long` too; in C++ they are overloaded for all integers of 32 and
+ * 64 bits. */
 #ifndef NTWIN_INTERLOCKED_H
 #define NTWIN_INTERLOCKED_H
 
@@ -80,25 +81,26 @@ void ntwin_come_to_memory(const volatile void *at, __SIZE_TYPE__ size);
         return comparand; \
     }
 
-/* The bit may lie in an element after the first, as it does for the instruction of x86. */
+/* The bit may lie in an element after the first, or before it where its number is negative, as it does for the instruction of x86. */
+#define NTWIN_ELEMENT(base, unsigned_type, bit, width) ((unsigned_type volatile *)(base) + (bit - (bit & (width - 1))) / width)
 #define NTWIN_BIT_TESTS(NAME, type, unsigned_type, width, memory) \
     NTWIN_INLINE BOOLEAN NAME(BitTestAndSet)(type volatile *base, type bit) \
     { \
         const unsigned_type mask = (unsigned_type)1 << (bit & (width - 1)); \
         NTWIN_COME(base); \
-        return (__atomic_fetch_or((unsigned_type volatile *)base + bit / width, mask, memory) & mask) != 0; \
+        return (__atomic_fetch_or(NTWIN_ELEMENT(base, unsigned_type, bit, width), mask, memory) & mask) != 0; \
     } \
     NTWIN_INLINE BOOLEAN NAME(BitTestAndReset)(type volatile *base, type bit) \
     { \
         const unsigned_type mask = (unsigned_type)1 << (bit & (width - 1)); \
         NTWIN_COME(base); \
-        return (__atomic_fetch_and((unsigned_type volatile *)base + bit / width, (unsigned_type)~mask, memory) & mask) != 0; \
+        return (__atomic_fetch_and(NTWIN_ELEMENT(base, unsigned_type, bit, width), (unsigned_type)~mask, memory) & mask) != 0; \
     } \
     NTWIN_INLINE BOOLEAN NAME(BitTestAndComplement)(type volatile *base, type bit) \
     { \
         const unsigned_type mask = (unsigned_type)1 << (bit & (width - 1)); \
         NTWIN_COME(base); \
-        return (__atomic_fetch_xor((unsigned_type volatile *)base + bit / width, mask, memory) & mask) != 0; \
+        return (__atomic_fetch_xor(NTWIN_ELEMENT(base, unsigned_type, bit, width), mask, memory) & mask) != 0; \
     }
 
 #define NTWIN_ALL(NAME, BITS_NAME, type, memory, seen_memory) \
@@ -288,23 +290,33 @@ NTWIN_OF_LONG(NTWIN_ULONG, unsigned long volatile *at, unsigned long, ULONG, NTW
 NTWIN_OF_LONG(NTWIN_HALF_LONG, long volatile *at, long, LONG, TRUE)
 NTWIN_OF_LONG(NTWIN_HALF_ULONG, unsigned long volatile *at, unsigned long, ULONG, TRUE)
 
-#define NTWIN_BY_WIDTH(name, at) \
+#define NTWIN_BY_WIDTH(name, at, usual) \
     (__extension__ _Generic((at), \
         long *: NTWIN_IS_SMALL(at) ? NTWIN_HALF_LONG(name) : NTWIN_LONG(name), \
         long volatile *: NTWIN_IS_SMALL(at) ? NTWIN_HALF_LONG(name) : NTWIN_LONG(name), \
         unsigned long *: NTWIN_IS_SMALL(at) ? NTWIN_HALF_ULONG(name) : NTWIN_ULONG(name), \
         unsigned long volatile *: NTWIN_IS_SMALL(at) ? NTWIN_HALF_ULONG(name) : NTWIN_ULONG(name), \
-        default: Interlocked##name))
-#define InterlockedIncrement(at) NTWIN_BY_WIDTH(Increment, at)(at)
-#define InterlockedDecrement(at) NTWIN_BY_WIDTH(Decrement, at)(at)
-#define InterlockedAdd(at, by) NTWIN_BY_WIDTH(Add, at)(at, by)
-#define InterlockedExchangeAdd(at, by) NTWIN_BY_WIDTH(ExchangeAdd, at)(at, by)
-#define InterlockedExchangeSubtract(at, by) NTWIN_BY_WIDTH(ExchangeSubtract, at)(at, by)
-#define InterlockedExchange(at, value) NTWIN_BY_WIDTH(Exchange, at)(at, value)
-#define InterlockedCompareExchange(at, value, comparand) NTWIN_BY_WIDTH(CompareExchange, at)(at, value, comparand)
-#define InterlockedAnd(at, bits) NTWIN_BY_WIDTH(And, at)(at, bits)
-#define InterlockedOr(at, bits) NTWIN_BY_WIDTH(Or, at)(at, bits)
-#define InterlockedXor(at, bits) NTWIN_BY_WIDTH(Xor, at)(at, bits)
+        default: usual))
+#define InterlockedIncrement(at) NTWIN_BY_WIDTH(Increment, at, InterlockedIncrement)(at)
+#define InterlockedDecrement(at) NTWIN_BY_WIDTH(Decrement, at, InterlockedDecrement)(at)
+#define InterlockedAdd(at, by) NTWIN_BY_WIDTH(Add, at, InterlockedAdd)(at, by)
+#define InterlockedExchangeAdd(at, by) NTWIN_BY_WIDTH(ExchangeAdd, at, InterlockedExchangeAdd)(at, by)
+#define InterlockedExchangeSubtract(at, by) NTWIN_BY_WIDTH(ExchangeSubtract, at, InterlockedExchangeSubtract)(at, by)
+#define InterlockedExchange(at, value) NTWIN_BY_WIDTH(Exchange, at, InterlockedExchange)(at, value)
+#define InterlockedCompareExchange(at, value, comparand) NTWIN_BY_WIDTH(CompareExchange, at, InterlockedCompareExchange)(at, value, comparand)
+#define InterlockedAnd(at, bits) NTWIN_BY_WIDTH(And, at, InterlockedAnd)(at, bits)
+#define InterlockedOr(at, bits) NTWIN_BY_WIDTH(Or, at, InterlockedOr)(at, bits)
+#define InterlockedXor(at, bits) NTWIN_BY_WIDTH(Xor, at, InterlockedXor)(at, bits)
+#define _InterlockedIncrement(at) NTWIN_BY_WIDTH(Increment, at, _InterlockedIncrement)(at)
+#define _InterlockedDecrement(at) NTWIN_BY_WIDTH(Decrement, at, _InterlockedDecrement)(at)
+#define _InterlockedAdd(at, by) NTWIN_BY_WIDTH(Add, at, _InterlockedAdd)(at, by)
+#define _InterlockedExchangeAdd(at, by) NTWIN_BY_WIDTH(ExchangeAdd, at, _InterlockedExchangeAdd)(at, by)
+#define _InterlockedExchangeSubtract(at, by) NTWIN_BY_WIDTH(ExchangeSubtract, at, _InterlockedExchangeSubtract)(at, by)
+#define _InterlockedExchange(at, value) NTWIN_BY_WIDTH(Exchange, at, _InterlockedExchange)(at, value)
+#define _InterlockedCompareExchange(at, value, comparand) NTWIN_BY_WIDTH(CompareExchange, at, _InterlockedCompareExchange)(at, value, comparand)
+#define _InterlockedAnd(at, bits) NTWIN_BY_WIDTH(And, at, _InterlockedAnd)(at, bits)
+#define _InterlockedOr(at, bits) NTWIN_BY_WIDTH(Or, at, _InterlockedOr)(at, bits)
+#define _InterlockedXor(at, bits) NTWIN_BY_WIDTH(Xor, at, _InterlockedXor)(at, bits)
 #endif
 
 /* ---- Barriers, and reads and writes that order. */

@@ -10,35 +10,36 @@
 #include <x86intrin.h>
 #endif
 
-/* Whether a bit is set; `at` has the number of the lowest. */
-NTWIN_INLINE BYTE _BitScanForward(DWORD *at, DWORD bits)
-{
-    if (bits != 0)
-        *at = (DWORD)__builtin_ctz(bits);
-    return bits != 0;
-}
+/* Whether a bit is set; the place gets the number of the lowest, or of the highest. It is a DWORD's, or an `unsigned long`'s, which Microsoft's pages
+ * have there. */
+#ifdef __cplusplus
+#define NTWIN_OF_ULONG(name) name
+#else
+#define NTWIN_OF_ULONG(name) ntwin_ulong##name
+#endif
+#define NTWIN_SCAN_TO(inlined, name, place, type, number) \
+    inlined BYTE name(place *at, type bits) \
+    { \
+        if (bits != 0) \
+            *at = (place)(number); \
+        return bits != 0; \
+    }
+#define NTWIN_SCAN(name, type, number) \
+    NTWIN_SCAN_TO(NTWIN_INLINE, name, DWORD, type, number) \
+    NTWIN_SCAN_TO(NTWIN_INLINE __attribute__((__always_inline__)), NTWIN_OF_ULONG(name), unsigned long, type, number)
 
-NTWIN_INLINE BYTE _BitScanForward64(DWORD *at, ULONG64 bits)
-{
-    if (bits != 0)
-        *at = (DWORD)__builtin_ctzl(bits);
-    return bits != 0;
-}
+NTWIN_SCAN(_BitScanForward, DWORD, __builtin_ctz(bits))
+NTWIN_SCAN(_BitScanForward64, ULONG64, __builtin_ctzl(bits))
+NTWIN_SCAN(_BitScanReverse, DWORD, 31 - __builtin_clz(bits))
+NTWIN_SCAN(_BitScanReverse64, ULONG64, 63 - __builtin_clzl(bits))
 
-/* The same; `at` has the number of the highest. */
-NTWIN_INLINE BYTE _BitScanReverse(DWORD *at, DWORD bits)
-{
-    if (bits != 0)
-        *at = 31 - (DWORD)__builtin_clz(bits);
-    return bits != 0;
-}
-
-NTWIN_INLINE BYTE _BitScanReverse64(DWORD *at, ULONG64 bits)
-{
-    if (bits != 0)
-        *at = 63 - (DWORD)__builtin_clzl(bits);
-    return bits != 0;
-}
+#ifndef __cplusplus
+#define NTWIN_BY_PLACE(name, at) (__extension__ _Generic((at), unsigned long *: NTWIN_OF_ULONG(name), default: name))
+#define _BitScanForward(at, bits) NTWIN_BY_PLACE(_BitScanForward, at)(at, bits)
+#define _BitScanForward64(at, bits) NTWIN_BY_PLACE(_BitScanForward64, at)(at, bits)
+#define _BitScanReverse(at, bits) NTWIN_BY_PLACE(_BitScanReverse, at)(at, bits)
+#define _BitScanReverse64(at, bits) NTWIN_BY_PLACE(_BitScanReverse64, at)(at, bits)
+#endif
 
 #define BitScanForward _BitScanForward
 #define BitScanForward64 _BitScanForward64

@@ -1,5 +1,6 @@
 /* SPDX-License-Identifier: MIT OR Apache-2.0 */
-/* lstrlen and its like, for CHAR and for WCHAR of either size. They compare by the numbers of characters, and only ASCII's without case. */
+/* lstrlen and its like, for CHAR and for WCHAR of either size. They compare by the numbers of characters, which have
+ * no sign, and only ASCII's without case. */
 #ifndef NTWIN_LSTRINGS_H
 #define NTWIN_LSTRINGS_H
 
@@ -9,7 +10,7 @@
 #define NTWIN_LOWER(letter) ((letter) >= 'A' && (letter) <= 'Z' ? (letter) + ('a' - 'A') : (letter))
 
 /* (A null text has no length, and is copied and compared as an empty one; a null place is answered.) */
-#define NTWIN_TEXT_CALLS(type, length_of, copy, copy_up_to, append, compare, compare_without_case) \
+#define NTWIN_TEXT_CALLS(type, number, length_of, copy, copy_up_to, append, compare, compare_without_case) \
     NTWIN_TEXT_CALL int length_of(type const *text) \
     { \
         int length = 0; \
@@ -44,7 +45,7 @@
             return (one != NULL) - (other != NULL); \
         while (one[i] != 0 && one[i] == other[i]) \
             i++; \
-        return (one[i] > other[i]) - (one[i] < other[i]); \
+        return ((number)one[i] > (number)other[i]) - ((number)one[i] < (number)other[i]); \
     } \
     NTWIN_TEXT_CALL int compare_without_case(type const *one, type const *other) \
     { \
@@ -53,11 +54,11 @@
             return (one != NULL) - (other != NULL); \
         while (one[i] != 0 && NTWIN_LOWER(one[i]) == NTWIN_LOWER(other[i])) \
             i++; \
-        return (NTWIN_LOWER(one[i]) > NTWIN_LOWER(other[i])) - (NTWIN_LOWER(one[i]) < NTWIN_LOWER(other[i])); \
+        return ((number)NTWIN_LOWER(one[i]) > (number)NTWIN_LOWER(other[i])) - ((number)NTWIN_LOWER(one[i]) < (number)NTWIN_LOWER(other[i])); \
     }
 
-NTWIN_TEXT_CALLS(CHAR, lstrlenA, lstrcpyA, lstrcpynA, lstrcatA, lstrcmpA, lstrcmpiA)
-NTWIN_TEXT_CALLS(WCHAR, lstrlenW, lstrcpyW, lstrcpynW, lstrcatW, lstrcmpW, lstrcmpiW)
+NTWIN_TEXT_CALLS(CHAR, BYTE, lstrlenA, lstrcpyA, lstrcpynA, lstrcatA, lstrcmpA, lstrcmpiA)
+NTWIN_TEXT_CALLS(WCHAR, ULONG, lstrlenW, lstrcpyW, lstrcpynW, lstrcatW, lstrcmpW, lstrcmpiW)
 
 #ifdef UNICODE
 #define lstrlen lstrlenW
