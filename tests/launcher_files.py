@@ -30,15 +30,20 @@ TITLED = CROSSED.replace(b"t0 mutex m1", b"; t0 is first\nt0 mutex m1\n; m1 is a
 # A journal's objects have the numbers of their handles, and its file has room left.
 JOURNAL = b"threads 256\n; h256 is accounts\nt0 mutex h256\nt0 any inf plain 256\nt1 any inf plain 256\n" + bytes(9000)
 LOOKED_AT |= {"titled.nts": TITLED, "journal": JOURNAL}
-# Scripts with the order that hangs, by hand: the head and all lines that say nothing, and then the lines in that order, each as it stands. In the last
-# one t1 keeps the mutex and makes no call after its wait; of orders of one length the one in which t0 goes first is shown.
+# Scripts with the order that hangs, by hand: what is made before all calls and all lines that say nothing, and then the lines in that order, each as it
+# stands. In `spaced` t1 keeps the mutex and makes no call after its wait; of orders of one length the one in which t0 goes first is shown.
 SPACED = b"; h is held\nthreads 2\t; two\r\n\n  t1 mutex h owned ; t1's\nt0 event e\n"
 SPACED_CALLS = [b"t1  any inf plain e\t; t1 waits\n", b"t0 set \t e\n", b"t0 any inf plain h"]
 TITLES = b"; t0 is main\n; m2 of nobody\n"
+BEGUN = b"threads 2\nt0 event go\nt0 dup h t1 1048576\n; t1 is worker\nt0 reset go\nt0 pulse go\nt0 any inf plain h\nt1 any inf plain go\n"
+# (A refused creation is made again, and makes nothing there either.)
+AGAIN = b"threads 1\nt0 semaphore s 3 2\nt0 semaphore s 1 0\nt0 event s\nt0 sleep 0 plain\nt0 set s\nt0 any inf plain s\nt0 any inf plain s\n"
 ORDERS = [
     ("crossed", CROSSED, KNOT),
     ("titled", TITLED, KNOT.replace(b"t0 mutex m1", b"; t0 is first\nt0 mutex m1\n; m1 is accounts").replace(b"t0 mutex m2\n", b"t0 mutex m2\n" + TITLES)),
     ("spaced", SPACED + b"; t0 is main\n".join(SPACED_CALLS), SPACED + b"; t0 is main\n" * 2 + b"\n".join([SPACED_CALLS[1][:-1], SPACED_CALLS[2], SPACED_CALLS[0]])),
+    ("begun", LOOKED_AT["begun.nts"], BEGUN),
+    ("late_again", LOOKED_AT["late_again.nts"], AGAIN),
 ]
 # What standard streams of other kinds do. Each: what it is, a command, and what it gives.
 FAILED = (1, "", ["ntrun: line 7: write failed"])

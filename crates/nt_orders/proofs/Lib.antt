@@ -1,3 +1,3 @@
-pub mod Heads
+pub mod Lines
 pub mod Adding
 pub mod Telling

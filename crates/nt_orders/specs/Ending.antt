@@ -8,12 +8,11 @@ use Rattle.nt_explore.specs.declared.explored.Explored.{Explored}
 use Rattle.nt_explore.specs.declared.explored.OrderVerdict.{OrderVerdict}
 use Rattle.nt_explore.specs.declared.explored.OrderVerdict.TheVariants as verdict
 use Rattle.nt_script.specs.Running.{Has}
-use Rattle.nt_script.specs.declared.fault.RunFault.TheVariants.{Script, Read, Write, Memory}
-use Rattle.nt_grammar.specs.declared.fault.ScriptFault.TheVariants.{ThreadsExpected}
+use Rattle.nt_lines.specs.Lines.{lines_of}
 use Rattle.nt_hangs.specs.Ending.{SaysMemory, Shows}
 use Rattle.nt_hangs.specs.Watching.{before_zero}
 use Rattle.nt_orders.specs.Faults.{order_message, order_status}
-use Rattle.nt_orders.specs.Plans.{IsPlanOf, LacksThreads, Lanes, StopsAfterHead, StopsInHead, order_text}
+use Rattle.nt_orders.specs.Plans.{IsPlanOf, Lanes, Stops, order_text, unread}
 use Rattle.nt_orders.specs.declared.fault.OrdersFault.{OrdersFault}
 use Rattle.nt_orders.specs.declared.report.Findings.{Findings}
 use Rattle.nt_orders.specs.declared.fault.OrdersFault.TheVariants as orders
@@ -38,15 +37,10 @@ PlanIsJudged most lanes s found =
     × (option_map (λ text. text.items) found.order ≡ order_of lanes told.verdict)
     × (met : ℕ → ℕ) × (looked : ℕ) × TellsSearch lanes.plan (beginning lanes.plan s) most met looked told
 
--- This is the script's first fault: in its head; that it has no `threads` line; or in a lane. Or memory was refused.
+-- This is the script's first fault: a line can't be read, or there is no `threads` line. Or memory was refused, and to no line.
 abbrev pub IsFirstFault : List ℕ → OrdersFault → Type 0
-IsFirstFault input (orders.Run (Script line fault)) =
-    StopsInHead input line fault ⊎ (((fault ≡ ThreadsExpected) × LacksThreads input line) ⊎ StopsAfterHead input (orders.Run (Script line fault)))
-IsFirstFault input (orders.Run (Memory line)) = Unit {0}
-IsFirstFault input (orders.Run (Read line)) = ⊥
-IsFirstFault input (orders.Run (Write line)) = ⊥
-IsFirstFault input (orders.Late line) = StopsAfterHead input (orders.Late line)
-IsFirstFault input (orders.NoThread line) = StopsAfterHead input (orders.NoThread line)
+IsFirstFault input (orders.Run fault) = Stops 1 unread (lines_of input) (orders.Run fault)
+IsFirstFault input (orders.NoThread line) = Stops 1 unread (lines_of input) (orders.NoThread line)
 IsFirstFault input orders.Memory = Unit {0}
 
 -- What an exploration comes to: a report on the lanes of the script; or the script has this first fault, or memory was refused.

@@ -9,14 +9,12 @@ use Rattle.nt_orders.specs.declared.fault.OrdersFault.TheVariants as orders
 -- the fault in words
 abbrev pub order_reason : OrdersFault → List ℕ
 order_reason (orders.Run fault) = run.reason_of fault
-order_reason (orders.Late line) = codes "creation after a call"
 order_reason (orders.NoThread line) = codes "no such thread"
 order_reason orders.Memory = codes "out of memory"
 
 -- the line of which it is told, if it is told of one
 abbrev pub order_line : OrdersFault → Option ℕ
 order_line (orders.Run fault) = Some (run.line_number fault)
-order_line (orders.Late line) = Some line
 order_line (orders.NoThread line) = Some line
 order_line orders.Memory = None
 
@@ -26,7 +24,6 @@ order_status (orders.Run (Script line fault)) = 2
 order_status (orders.Run (Read line)) = 1
 order_status (orders.Run (Write line)) = 1
 order_status (orders.Run (Memory line)) = 1
-order_status (orders.Late line) = 2
 order_status (orders.NoThread line) = 2
 order_status orders.Memory = 1
 

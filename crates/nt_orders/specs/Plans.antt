@@ -1,90 +1,61 @@
--- A script's lines as a plan: what stands at its head, and what each lane is to do.
-use Rattle.std.specs.Prelude.{◌≡◌, ◌⊎◌, ℕ, ◌+◌, ◌<◌, ◌++◌, Bool, true, false, nat_le, List, [], ◌∷◌, length, replicate, slice_set, slice_index_or, Option, None, Some}
-use Rattle.std.specs.List.{flat_map, fold}
+-- A script's lines as a plan: what is made before all calls, and what each lane is to do.
+use Rattle.std.specs.Prelude.{◌≡◌, ◌⊎◌, ℕ, ◌+◌, ◌<◌, ◌==◌, ◌||◌, ◌++◌, Bool, true, false, not, nat_le, List, [], ◌∷◌, length, replicate, slice_set, slice_index_or, Option, None, Some, is_some, if◌then◌else◌}
+use Rattle.std.specs.List.{fold}
 use Rattle.nt_calls.specs.State.{State}
+use Rattle.nt_calls.specs.declared.call.Act.{Act}
+use Rattle.nt_calls.specs.declared.call.Call.{Call}
+use Rattle.nt_tables.specs.Handles.{opened_at}
 use Rattle.nt_look.specs.Orders.{Ask, Calls, Passes, Plan, asks}
 use Rattle.nt_lines.specs.Lines.{lines_of}
 use Rattle.nt_script.specs.Progress.{Progress, scope_of}
 use Rattle.nt_grammar.specs.Lines.{FaultIn, IsLine}
-use Rattle.nt_grammar.specs.declared.fault.ScriptFault.{ScriptFault}
-use Rattle.nt_script.specs.declared.fault.RunFault.{RunFault}
-use Rattle.nt_script.specs.declared.fault.RunFault.TheVariants.{Script, Read, Write, Memory}
+use Rattle.nt_grammar.specs.declared.fault.ScriptFault.TheVariants.{ThreadsExpected}
+use Rattle.nt_script.specs.declared.fault.RunFault.TheVariants as run
 use Rattle.nt_grammar.specs.declared.parser.Statement.{Statement}
 use Rattle.nt_grammar.specs.declared.parser.Statement.TheVariants.{Blank, Create, Perform, Tick}
 use Rattle.nt_hangs.specs.Watching.{Seen, Sees, unseen}
 use Rattle.nt_orders.specs.declared.fault.OrdersFault.{OrdersFault}
 use Rattle.nt_orders.specs.declared.fault.OrdersFault.TheVariants as orders
 
--- ---- the head
+-- ---- what is made before all calls
 
--- the statement creates something, or says nothing
-abbrev pub is_of_head : Statement → Bool
-is_of_head Blank = true
-is_of_head (Create who name act) = true
-is_of_head (Perform who call) = false
-is_of_head (Tick moment) = false
+-- the handle that the act makes another one of
+abbrev pub source_of : Act → Option ℕ
+source_of (Act.Duplicate handle access) = Some handle
+source_of act = None
 
--- a line up to the `threads` line, or one that creates something or says nothing
-abbrev pub IsOfHead : Option Progress → List ℕ → Type 0
-IsOfHead None bytes = Unit {0}
-IsOfHead (Some now) bytes = (statement : Statement) × IsLine now.scope statement bytes × (is_of_head statement ≡ true)
+-- it is one of these
+abbrev pub is_among : List ℕ → Option ℕ → Bool
+is_among handles None = false
+is_among handles (Some handle) = fold (λ found it. found || (it == handle)) false handles
 
--- These lines, from this number on, are of the head; they were carried out and seen.
-abbrev pub SeesHead : ℕ → Seen → List (List ℕ) → Seen → Type 0
-SeesHead number old [] new = new ≡ old
-SeesHead number old (bytes ∷ lines) new = IsOfHead old.now bytes × ((mid : Seen) × Sees number bytes old mid × SeesHead (number + 1) mid lines new)
+-- the statement creates something, but for a duplicate of one of these closed handles; or it says nothing
+abbrev pub is_of_start : List ℕ → Statement → Bool
+is_of_start closed Blank = true
+is_of_start closed (Create who name act) = not (is_among closed (source_of act))
+is_of_start closed (Perform who call) = false
+is_of_start closed (Tick moment) = false
 
--- a line that is not of the head
-abbrev pub IsOfLane : Option Progress → List ℕ → Type 0
-IsOfLane None bytes = ⊥
-IsOfLane (Some now) bytes = (statement : Statement) × IsLine now.scope statement bytes × (is_of_head statement ≡ false)
+-- the statement is such a duplicate, which makes nothing
+abbrev pub is_left_out : List ℕ → Statement → Bool
+is_left_out closed Blank = false
+is_left_out closed (Create who name act) = is_among closed (source_of act)
+is_left_out closed (Perform who call) = false
+is_left_out closed (Tick moment) = false
 
--- the head ends before these lines: there are none, or the first is not of it
-abbrev pub EndsHead : Option Progress → List (List ℕ) → Type 0
-EndsHead now [] = Unit {0}
-EndsHead now (bytes ∷ lines) = IsOfLane now bytes
+-- the line is such a statement
+abbrev pub IsLineThat : Option Progress → (Statement → Bool) → List ℕ → Type 0
+IsLineThat None is bytes = ⊥
+IsLineThat (Some now) is bytes = (statement : Statement) × IsLine now.scope statement bytes × (is statement ≡ true)
+
+-- The line is carried out before all calls, wherever it stands: one up to the `threads` line; or one that creates something or says nothing.
+abbrev pub IsOfStart : Option Progress → List ℕ → List ℕ → Type 0
+IsOfStart None closed bytes = Unit {0}
+IsOfStart (Some now) closed bytes = IsLineThat (Some now) (is_of_start closed) bytes
 
 -- a line as it stands, with an LF
 abbrev pub whole_line : List ℕ → List ℕ
 whole_line bytes = bytes ++ 10 ∷ []
-
--- the lines as they stand
-abbrev pub front_text : List (List ℕ) → List ℕ
-front_text lines = flat_map whole_line lines
-
--- So many of the lines are the head, which has this text and was seen, and these bytes are left.
-pub record ReadsHead (input rest : List ℕ) (count : ℕ) (front : List ℕ) (seen : Seen) : Type 0 where
-  pub head : List (List ℕ)
-  pub lines : lines_of input ≡ head ++ lines_of rest
-  pub place : count ≡ length head
-  pub text : front ≡ front_text head
-  pub sees : SeesHead 1 unseen head seen
-  pub ends : EndsHead seen.now (lines_of rest)
-
--- The lines before this one are of the head and were seen, and this one has this fault.
-pub record StopsInHead (input : List ℕ) (number : ℕ) (fault : ScriptFault) : Type 0 where
-  pub before : List (List ℕ)
-  pub bytes : List ℕ
-  pub after : List (List ℕ)
-  pub seen : Seen
-  pub lines : lines_of input ≡ before ++ bytes ∷ after
-  pub place : number ≡ 1 + length before
-  pub sees : SeesHead 1 unseen before seen
-  pub cause : FaultIn (scope_of seen.now) bytes fault
-
--- All lines are of a head that has no `threads` line, and this is the number after the last.
-pub record LacksThreads (input : List ℕ) (number : ℕ) : Type 0 where
-  pub seen : Seen
-  pub sees : SeesHead 1 unseen (lines_of input) seen
-  pub none : seen.now ≡ None
-  pub place : number ≡ 1 + length (lines_of input)
-
--- a fault of the head, or memory was refused
-abbrev pub IsHeadFault : List ℕ → RunFault → Type 0
-IsHeadFault input (Script number fault) = StopsInHead input number fault
-IsHeadFault input (Memory number) = Unit {0}
-IsHeadFault input (Read number) = ⊥
-IsHeadFault input (Write number) = ⊥
 
 -- ---- the lanes
 
@@ -119,31 +90,90 @@ with_front lanes bytes = record { plan = lanes.plan; texts = lanes.texts; front 
 abbrev pub opened_lanes : ℕ → List ℕ → Lanes
 opened_lanes threads front = record { plan = replicate (threads + 1) []; texts = replicate (threads + 1) []; front = front }
 
--- What a statement on this line adds to the lanes of so many threads: a call to its caller's lane, a tick to the lane after theirs. A line that says
--- nothing stands in front, since it may tell names.
-abbrev pub Adds : ℕ → List ℕ → Statement → Lanes → Lanes → Type 0
-Adds threads bytes Blank old new = new ≡ with_front old bytes
-Adds threads bytes (Create who name act) old new = ⊥
-Adds threads bytes (Perform who call) old new = (who < threads) × (new ≡ with_line old who (Calls call) bytes)
-Adds threads bytes (Tick moment) old new = new ≡ with_line old threads (Passes moment) bytes
+-- how many threads there are, once the `threads` line was carried out
+abbrev pub threads_of : Option Progress → Option ℕ
+threads_of None = None
+threads_of (Some now) = Some now.state.threads
 
--- These lines are added to the lanes, one after another.
-abbrev pub ReadsLanes : Progress → List (List ℕ) → Lanes → Lanes → Type 0
-ReadsLanes now [] old new = new ≡ old
-ReadsLanes now (bytes ∷ lines) old new =
-    (statement : Statement) × (mid : Lanes) × IsLine now.scope statement bytes × Adds now.state.threads bytes statement old mid × ReadsLanes now lines mid new
+-- a line in front of the lanes; that from which on there are threads opens them
+abbrev pub in_front : (old new : Option ℕ) → List ℕ → Lanes → Lanes
+in_front None None bytes lanes = with_front lanes bytes
+in_front None (Some threads) bytes lanes = opened_lanes threads (lanes.front ++ whole_line bytes)
+in_front (Some old) new bytes lanes = with_front lanes bytes
 
--- The script in these bytes comes to this state by its head, and the lines after it are these lanes.
-pub record IsPlanOf (input : List ℕ) (lanes : Lanes) (s : State) : Type 0 where
-  pub rest : List ℕ
-  pub count : ℕ
-  pub front : List ℕ
+-- What a statement asks of a lane, where there are so many threads: a call is asked of its caller's, a tick of the lane after theirs.
+abbrev pub AsksOf : ℕ → Statement → ℕ → Ask → Type 0
+AsksOf threads Blank lane ask = ⊥
+AsksOf threads (Create who name act) lane ask = ⊥
+AsksOf threads (Perform who call) lane ask = (who < threads) × (lane ≡ who) × (ask ≡ Calls call)
+AsksOf threads (Tick moment) lane ask = (lane ≡ threads) × (ask ≡ Passes moment)
+
+-- The line asks this of this lane.
+abbrev pub IsOfLane : Option Progress → List ℕ → ℕ → Ask → Type 0
+IsOfLane None bytes lane ask = ⊥
+IsOfLane (Some now) bytes lane ask = (statement : Statement) × IsLine now.scope statement bytes × AsksOf now.state.threads statement lane ask
+
+-- ---- all lines
+
+-- how far a script was read: what was carried out before all calls, the lanes so far, and the handles that their lines close
+pub record Read : Type 0 where
   pub seen : Seen
-  pub head : ReadsHead input rest count front seen
+  pub lanes : Lanes
+  pub closed : List ℕ
+
+-- nothing was read yet
+abbrev pub unread : Read
+unread = record { seen = unseen; lanes = opened_lanes 0 []; closed = [] }
+
+-- the handle that is closed so
+abbrev pub closed_by : Ask → Option ℕ
+closed_by (Calls (Call.Act (Act.Close handle))) = Some handle
+closed_by ask = None
+
+-- the handle names something before all calls
+abbrev pub is_open : Option Progress → ℕ → Bool
+is_open None handle = false
+is_open (Some now) handle = is_some (opened_at now.state.handles handle)
+
+-- the closed handles, with this one if it was open
+abbrev pub with_closed : Option Progress → List ℕ → Option ℕ → List ℕ
+with_closed now closed None = closed
+with_closed now closed (Some handle) = if is_open now handle then closed ++ handle ∷ [] else closed
+
+-- A line is carried out before all calls, and stands in front of the lanes.
+pub record IsInFront (number : ℕ) (bytes : List ℕ) (old new : Read) : Type 0 where
+  pub line : IsOfStart old.seen.now old.closed bytes
+  pub sees : Sees number bytes old.seen new.seen
+  pub lanes : new.lanes ≡ in_front (threads_of old.seen.now) (threads_of new.seen.now) bytes old.lanes
+  pub closed : new.closed ≡ old.closed
+
+-- A line is the next of its lane.
+pub record IsInLane (bytes : List ℕ) (old new : Read) : Type 0 where
+  pub lane : ℕ
+  pub ask : Ask
+  pub line : IsOfLane old.seen.now bytes lane ask
+  pub seen : new.seen ≡ old.seen
+  pub lanes : new.lanes ≡ with_line old.lanes lane ask bytes
+  pub closed : new.closed ≡ with_closed old.seen.now old.closed (closed_by ask)
+
+-- The line with this number is read: it is carried out before all calls, or joins its lane, or is left out.
+abbrev pub Reads : ℕ → List ℕ → Read → Read → Type 0
+Reads number bytes old new =
+    IsInFront number bytes old new ⊎ (IsInLane bytes old new ⊎ (IsLineThat old.seen.now (is_left_out old.closed) bytes × (new ≡ old)))
+
+-- These lines, from this number on, are read, one after another.
+abbrev pub ReadsAll : ℕ → Read → List (List ℕ) → Read → Type 0
+ReadsAll number old [] new = new ≡ old
+ReadsAll number old (bytes ∷ lines) new = (mid : Read) × Reads number bytes old mid × ReadsAll (number + 1) mid lines new
+
+-- The script in these bytes is these lanes, from the state to which those of its lines come that are carried out before all calls.
+pub record IsPlanOf (input : List ℕ) (lanes : Lanes) (s : State) : Type 0 where
+  pub seen : Seen
+  pub closed : List ℕ
   pub now : Progress
+  pub reads : ReadsAll 1 unread (lines_of input) (record { seen = seen; lanes = lanes; closed = closed })
   pub is : seen.now ≡ Some now
   pub start : s ≡ now.state
-  pub reads : ReadsLanes now (lines_of rest) (opened_lanes now.state.threads front) lanes
 
 -- ---- an order as a script
 
@@ -175,14 +205,7 @@ gone_all texts text lanes = fold (gone_on texts) (none_gone texts text) lanes
 abbrev pub order_text : Texts → List ℕ → List ℕ → List ℕ
 order_text texts text lanes = (gone_all texts text lanes).text
 
--- ---- faults of the lanes
-
--- it creates something
-abbrev pub creates : Statement → Bool
-creates Blank = false
-creates (Create who name act) = true
-creates (Perform who call) = false
-creates (Tick moment) = false
+-- ---- faults
 
 -- it is a call of a thread that is none of so many
 abbrev pub is_of_nobody : ℕ → Statement → Bool
@@ -191,34 +214,22 @@ is_of_nobody threads (Create who name act) = false
 is_of_nobody threads (Perform who call) = nat_le threads who
 is_of_nobody threads (Tick moment) = false
 
--- the line is such a statement
-abbrev pub IsLineThat : Progress → List ℕ → (Statement → Bool) → Type 0
-IsLineThat now bytes is = (statement : Statement) × IsLine now.scope statement bytes × (is statement ≡ true)
+-- the line is such a call
+abbrev pub IsOfNobody : Option Progress → List ℕ → Type 0
+IsOfNobody None bytes = ⊥
+IsOfNobody (Some now) bytes = IsLineThat (Some now) (is_of_nobody now.state.threads) bytes
 
--- The line with this number is in no lane: it has this first fault, or memory was refused to it; it creates something; or there is no such thread.
-abbrev pub IsInNoLane : Progress → ℕ → List ℕ → OrdersFault → Type 0
-IsInNoLane now number bytes (orders.Run (Script line fault)) = (line ≡ number) × FaultIn (Some now.scope) bytes fault
-IsInNoLane now number bytes (orders.Run (Memory line)) = line ≡ number
-IsInNoLane now number bytes (orders.Run (Read line)) = ⊥
-IsInNoLane now number bytes (orders.Run (Write line)) = ⊥
-IsInNoLane now number bytes (orders.Late line) = (line ≡ number) × IsLineThat now bytes creates
-IsInNoLane now number bytes (orders.NoThread line) = (line ≡ number) × IsLineThat now bytes (is_of_nobody now.state.threads)
-IsInNoLane now number bytes orders.Memory = ⊥
+-- The line with this number can't be read: it has this first fault, or memory was refused to it; or there is no such thread.
+abbrev pub IsUnreadable : Option Progress → ℕ → List ℕ → OrdersFault → Type 0
+IsUnreadable now number bytes (orders.Run (run.Script line fault)) = (line ≡ number) × FaultIn (scope_of now) bytes fault
+IsUnreadable now number bytes (orders.Run (run.Memory line)) = line ≡ number
+IsUnreadable now number bytes (orders.Run (run.Read line)) = ⊥
+IsUnreadable now number bytes (orders.Run (run.Write line)) = ⊥
+IsUnreadable now number bytes (orders.NoThread line) = (line ≡ number) × IsOfNobody now bytes
+IsUnreadable now number bytes orders.Memory = ⊥
 
--- Of these lines, from this number on, the first that can't be added to the lanes is in none for this cause.
-abbrev pub StopsInLanes : Progress → ℕ → List (List ℕ) → Lanes → OrdersFault → Type 0
-StopsInLanes now number [] lanes fault = ⊥
-StopsInLanes now number (bytes ∷ lines) lanes fault =
-    IsInNoLane now number bytes fault
-    ⊎ ((statement : Statement) × (mid : Lanes) × IsLine now.scope statement bytes × Adds now.state.threads bytes statement lanes mid × StopsInLanes now (number + 1) lines mid fault)
-
--- The head was carried out, and of the lines after it the first that can't be added to the lanes has this fault.
-pub record StopsAfterHead (input : List ℕ) (fault : OrdersFault) : Type 0 where
-  pub rest : List ℕ
-  pub count : ℕ
-  pub front : List ℕ
-  pub seen : Seen
-  pub head : ReadsHead input rest count front seen
-  pub now : Progress
-  pub is : seen.now ≡ Some now
-  pub stops : StopsInLanes now (count + 1) (lines_of rest) (opened_lanes now.state.threads front) fault
+-- Of these lines, from this number on, the first that can't be read has this fault; or all are read, and none was a `threads` line.
+abbrev pub Stops : ℕ → Read → List (List ℕ) → OrdersFault → Type 0
+Stops number old [] fault = (old.seen.now ≡ None) × (fault ≡ orders.Run (run.Script number ThreadsExpected))
+Stops number old (bytes ∷ lines) fault =
+    IsUnreadable old.seen.now number bytes fault ⊎ ((mid : Read) × Reads number bytes old mid × Stops (number + 1) mid lines fault)

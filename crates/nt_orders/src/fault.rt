@@ -1,7 +1,9 @@
 //! Why a script's orders are not explored.
 ghost use Rattle.std.specs.Prelude.{◌≡◌, ◌++◌, IfOk, OnOk, codes, decimal};
+ghost use Rattle.nt_orders.specs.Reading.{IsFaultAt};
 ghost use Rattle.nt_orders.specs.Faults.{order_line, line_text, order_message, order_reason, order_status};
 
+use nt_grammar::LineFault;
 use nt_script::RunFault;
 use nt_wording::put_number;
 use std::alloc::{AllocError, Global};
@@ -11,12 +13,20 @@ use std::alloc::{AllocError, Global};
 pub enum OrdersFault {
     /// A line can't be carried out or read.
     Run(RunFault),
-    /// The line creates something, and a line before it does not.
-    Late { line: u64 },
     /// No thread has the number of the line's caller.
     NoThread { line: u64 },
     /// Memory was refused to the search, or to the report.
     Memory,
+}
+
+/// Why the line with this number can't be carried out.
+pub(crate) fn fault_at(line: u64, fault: LineFault) -> RunFault
+    ensures { IsFaultAt line fault result }
+{
+    match fault {
+        LineFault::Memory => RunFault::Memory { line },
+        LineFault::Script(fault) => RunFault::Script { line, fault },
+    }
 }
 
 /// The fault in words, and its line.
@@ -25,7 +35,6 @@ fn reason_of(fault: OrdersFault) -> &'static str
 {
     match fault {
         OrdersFault::Run(fault) => fault.reason(),
-        OrdersFault::Late { .. } => "creation after a call",
         OrdersFault::NoThread { .. } => "no such thread",
         OrdersFault::Memory => "out of memory",
     }
@@ -37,7 +46,7 @@ fn line_of(fault: OrdersFault) -> Option<u64>
 {
     match fault {
         OrdersFault::Run(fault) => Some(fault.line()),
-        OrdersFault::Late { line } | OrdersFault::NoThread { line } => Some(line),
+        OrdersFault::NoThread { line } => Some(line),
         OrdersFault::Memory => None,
     }
 }
@@ -51,7 +60,7 @@ pub(crate) fn status_of(fault: OrdersFault) -> u8
         OrdersFault::Run(
             RunFault::Read { .. } | RunFault::Write { .. } | RunFault::Memory { .. },
         ) => 1,
-        OrdersFault::Late { .. } | OrdersFault::NoThread { .. } => 2,
+        OrdersFault::NoThread { .. } => 2,
         OrdersFault::Memory => 1,
     }
 }

@@ -1,7 +1,7 @@
 // SPDX-License-Identifier: MIT OR Apache-2.0
 //! Every order of a script's lines, as text: whether one hangs, and which.
 //!
-//! A script is one order of its threads' calls. Here its lines are a plan: what stands at the head, creations alone, is made first; then each
+//! A script is one order of its threads' calls. Here its lines are a plan: what it creates, wherever that stands, is made first; then each
 //! thread keeps the order of its own lines, and the ticks keep theirs ([`Script`]). `nt_explore` tries all orders of the plan, and the
 //! report shows the shortest that hangs: line by line with what each answered, who waits for what at its end, and since when a wait was lost
 //! ([`report_on`]). That order is a script too, which ends where it hangs ([`Findings`]). [`explore_over`] writes both for a reader's script, and
@@ -12,9 +12,9 @@ mod answers;
 mod explore;
 mod fault;
 mod hang;
-mod head;
 mod lanes;
 mod order;
+mod reading;
 mod report;
 mod rows;
 mod text;

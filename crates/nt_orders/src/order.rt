@@ -4,8 +4,8 @@ ghost use Rattle.nt_orders.specs.Ending.{order_of};
 ghost use Rattle.nt_orders.specs.Plans.{gone_on, order_text};
 ghost use Rattle.nt_orders.specs.Reading.{gone, lanes_of, texts_of};
 
-use crate::head::put_whole;
 use crate::lanes::{Line, Script};
+use crate::text::put_whole;
 use nt_explore::OrderVerdict;
 use std::alloc::{AllocError, Global};
 

@@ -7,7 +7,8 @@ ghost use Rattle.nt_orders.specs.Reading.{lanes_of};
 
 use crate::fault::OrdersFault;
 use crate::hang::{held_at, put_hang};
-use crate::lanes::{Script, read_script};
+use crate::lanes::Script;
+use crate::reading::read_script;
 use crate::rows::put_rows;
 use nt_core::Core;
 use nt_explore::{Explored, Loss, OrderVerdict, Watcher, explore};
@@ -30,7 +31,7 @@ impl Watcher for Nobody {
 #[derive(Drop)]
 pub struct Findings {
     pub report: Report,
-    /// The order that hangs, as a script, if one does: the head as it stands, then the lines in that order.
+    /// The order that hangs, as a script, if one does: what is made before all calls, then the lines in that order.
     pub order: Option<Vec<u8>>,
 }
 

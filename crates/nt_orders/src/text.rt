@@ -1,5 +1,6 @@
-//! Counts and gaps in a text.
+//! Counts, gaps and lines in a text.
 ghost use Rattle.std.specs.Prelude.{◌≡◌, ◌++◌, ◌==◌, OnOk, length, decimal};
+ghost use Rattle.nt_orders.specs.Plans.{whole_line};
 ghost use Rattle.nt_orders.specs.Rows.{gap};
 
 use itoa::Buffer;
@@ -21,4 +22,12 @@ pub(crate) fn put_gap(out: &mut Vec<u8>, count: usize) -> Result<(), AllocError>
         Some(length) => out.resize(length, b' '),
         None => Err(AllocError),
     }
+}
+
+/// Puts a line as it stands, with an LF.
+pub(crate) fn put_whole(out: &mut Vec<u8>, line: &[u8]) -> Result<(), AllocError>
+    ensures { OnOk result (out.new.items ≡ out.old.items ++ whole_line line.now) }
+{
+    out.extend_from_slice(line)?;
+    out.extend_from_slice(b"\n")
 }
