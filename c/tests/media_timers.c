@@ -1,4 +1,5 @@
-/* winmm's timers: what timeSetEvent and timeKillEvent answer, and what comes of them, from Microsoft's pages. */
+/* winmm's timers: what timeSetEvent and timeKillEvent answer, and what comes of them, from Microsoft's pages. And timers, waits and work of the pool that
+ * are closed while a callback uses them. */
 #include <windows.h>
 
 #include "settled.h"
@@ -149,14 +150,143 @@ static void the_most(void)
         IS(timeKillEvent(timers[i]), TIMERR_NOERROR);
 }
 
+/* ---- What is closed while a callback uses it: it is there until that has ended, and so are the members of its group; and it comes no more. */
+
+static PTP_WORK USED_WORK;
+static HANDLE GO, DONE, SET, QUEUE, OWN_TIMER, OTHER_TIMER;
+static FILETIME AT_ONCE;
+
+static void CALLBACK count_work(PTP_CALLBACK_INSTANCE instance, PVOID ran, PTP_WORK work)
+{
+    (void)instance, (void)work;
+    InterlockedIncrement(ran);
+}
+
+static void CALLBACK note_late(PVOID none, BOOLEAN timed_out)
+{
+    (void)none, (void)timed_out;
+}
+
+static void stay(LONG *steps)
+{
+    InterlockedIncrement(steps);
+    must(WaitForSingleObject(GO, INFINITE) == WAIT_OBJECT_0);
+    InterlockedIncrement(steps);
+}
+
+/* Once its group's members are being closed, submits another of them, sets itself and closes itself. */
+static void CALLBACK use_members(PTP_CALLBACK_INSTANCE instance, PVOID ran, PTP_TIMER timer)
+{
+    (void)instance;
+    InterlockedIncrement(ran);
+    SetEvent(DONE);
+    while (IsThreadpoolTimerSet(timer))
+        Sleep(1);
+    Sleep(10);
+    SubmitThreadpoolWork(USED_WORK);
+    SetThreadpoolTimer(timer, &AT_ONCE, 0, 0);
+    CloseThreadpoolTimer(timer);
+    Sleep(10);
+}
+
+static void CALLBACK close_itself(PTP_CALLBACK_INSTANCE instance, PVOID ended, PTP_WORK work)
+{
+    (void)instance;
+    CloseThreadpoolWork(work);
+    SetEvent(DONE);
+    Sleep(30);
+    InterlockedIncrement(ended);
+}
+
+static void closed_members(void)
+{
+    TP_CALLBACK_ENVIRON environment;
+    LONG ran = 0, used = 0, ended = 0;
+    PTP_CLEANUP_GROUP group = CreateThreadpoolCleanupGroup();
+    InitializeThreadpoolEnvironment(&environment);
+    SetThreadpoolCallbackCleanupGroup(&environment, group, NULL);
+    PTP_TIMER timer = CreateThreadpoolTimer(use_members, &ran, &environment);
+    USED_WORK = CreateThreadpoolWork(count_work, &used, &environment);
+    SetThreadpoolTimer(timer, &AT_ONCE, 100000, 0);
+    must(WaitForSingleObject(DONE, INFINITE) == WAIT_OBJECT_0);
+    CloseThreadpoolCleanupGroupMembers(group, FALSE, NULL);
+    IS(ReadAcquire(&used), 1);
+    IS(later(&ran), 1);
+    /* One that has closed itself is waited for, too; and the group may be closed before it has ended. */
+    SubmitThreadpoolWork(CreateThreadpoolWork(close_itself, &ended, &environment));
+    must(WaitForSingleObject(DONE, INFINITE) == WAIT_OBJECT_0);
+    CloseThreadpoolCleanupGroupMembers(group, FALSE, NULL);
+    IS(ReadAcquire(&ended), 1);
+    SubmitThreadpoolWork(CreateThreadpoolWork(close_itself, &ended, &environment));
+    must(WaitForSingleObject(DONE, INFINITE) == WAIT_OBJECT_0);
+    CloseThreadpoolCleanupGroup(group);
+    IS(settled(&ended, 2), 2);
+}
+
+static void CALLBACK change_timers(PVOID ended, BOOLEAN timed_out)
+{
+    (void)timed_out;
+    SetEvent(DONE);
+    Sleep(20);
+    ANSWERS(ChangeTimerQueueTimer(QUEUE, OTHER_TIMER, 100000, 0), TRUE, UNTOUCHED);
+    ANSWERS(DeleteTimerQueueTimer(QUEUE, OWN_TIMER, NULL), FALSE, ERROR_IO_PENDING);
+    Sleep(20);
+    InterlockedIncrement(ended);
+}
+
+static void closed_queue(void)
+{
+    LONG ended = 0;
+    QUEUE = CreateTimerQueue();
+    must(CreateTimerQueueTimer(&OWN_TIMER, QUEUE, change_timers, &ended, 5, 0, WT_EXECUTEDEFAULT));
+    must(CreateTimerQueueTimer(&OTHER_TIMER, QUEUE, note_late, NULL, 100000, 0, WT_EXECUTEDEFAULT));
+    must(WaitForSingleObject(DONE, INFINITE) == WAIT_OBJECT_0);
+    ANSWERS(DeleteTimerQueueEx(QUEUE, INVALID_HANDLE_VALUE), TRUE, UNTOUCHED);
+    IS(ReadAcquire(&ended), 1);
+}
+
+static void CALLBACK set_timer_when_closed(PTP_CALLBACK_INSTANCE instance, PVOID steps, PTP_TIMER timer)
+{
+    (void)instance;
+    stay(steps);
+    SetThreadpoolTimer(timer, &AT_ONCE, 0, 0);
+}
+
+static void CALLBACK set_wait_when_closed(PTP_CALLBACK_INSTANCE instance, PVOID steps, PTP_WAIT wait, TP_WAIT_RESULT result)
+{
+    (void)instance, (void)result;
+    stay(steps);
+    SetThreadpoolWait(wait, SET, NULL);
+}
+
+static void set_once_closed(void)
+{
+    LONG steps = 0, other_steps = 0;
+    PTP_TIMER timer = CreateThreadpoolTimer(set_timer_when_closed, &steps, NULL);
+    PTP_WAIT wait = CreateThreadpoolWait(set_wait_when_closed, &other_steps, NULL);
+    ResetEvent(GO);
+    SetThreadpoolTimer(timer, &AT_ONCE, 0, 0);
+    SetThreadpoolWait(wait, SET, NULL);
+    IS(settled(&steps, 1) + settled(&other_steps, 1), 2);
+    CloseThreadpoolTimer(timer);
+    CloseThreadpoolWait(wait);
+    SetEvent(GO);
+    IS(settled(&steps, 2) + settled(&other_steps, 2), 4);
+    IS(later(&steps) + later(&other_steps), 4);
+}
+
 int main(void)
 {
-    must((EVENT = CreateEvent(NULL, FALSE, FALSE, NULL)) != NULL);
+    must((EVENT = CreateEvent(NULL, FALSE, FALSE, NULL)) != NULL && (SET = CreateEvent(NULL, TRUE, TRUE, NULL)) != NULL);
+    must((GO = CreateEvent(NULL, TRUE, FALSE, NULL)) != NULL && (DONE = CreateEvent(NULL, FALSE, FALSE, NULL)) != NULL);
     refusals();
     once_and_in_periods();
     events();
     killed_as_they_run();
     the_most();
+    closed_members();
+    closed_queue();
+    set_once_closed();
     must(CloseHandle(EVENT));
     return counted();
 }

@@ -177,6 +177,27 @@ static void stopped_waits(void)
     CloseHandle(automatic);
 }
 
+/* As many as may be are stopped, whose threads are busy: others come meanwhile. */
+static void stopped_waits_leave_room(void)
+{
+    enum { MOST = 160 };
+    HANDLE waits[MOST], wait = NULL;
+    LONG steps = 0;
+    ResetEvent(GO);
+    SetEvent(EVENT);
+    for (int i = 0; i < MOST; i++)
+        must(RegisterWaitForSingleObject(&waits[i], EVENT, stay, &steps, INFINITE, WT_EXECUTEINWAITTHREAD));
+    IS(settled(&steps, MOST), MOST);
+    ANSWERS(RegisterWaitForSingleObject(&wait, EVENT, note_wait, NULL, INFINITE, WT_EXECUTEDEFAULT), FALSE, ERROR_NO_SYSTEM_RESOURCES);
+    for (int i = 0; i < MOST; i++)
+        must(!UnregisterWait(waits[i]));
+    must(RegisterWaitForSingleObject(&wait, EVENT, note_wait, DONE, INFINITE, WT_EXECUTEONLYONCE));
+    IS(WaitForSingleObject(DONE, 60000), WAIT_OBJECT_0);
+    SetEvent(GO);
+    must(UnregisterWaitEx(wait, INVALID_HANDLE_VALUE));
+    IS(settled(&steps, 2 * MOST), 2 * MOST);
+}
+
 /* A wait's time is over no sooner than it is asked for. */
 static void times_of_waits(void)
 {
@@ -304,5 +325,6 @@ int main(void)
     many_timers();
     timer_queues();
     deleted_queue();
+    stopped_waits_leave_room();
     return counted();
 }

@@ -115,6 +115,7 @@ static void with_wait(void)
     wait_object = CreateThreadpoolWait(close_wait_and_pool, NULL, &environment);
     watch = (struct watch){ .told = &wait_object->task, .is_once = true };
     wait_object->task.watch = &watch;
+    watched++;
 }
 
 static void let_wait_end(void)
@@ -298,6 +299,89 @@ static void unset_wait(void)
     CloseThreadpoolWait(wait_object);
 }
 
+/* ---- A wait that is refused a thread, beside one of the pool that takes it up, and its callback, which closes it or not. */
+
+static void serve(PTP_POOL served)
+{
+    uint32_t outcome;
+    take_latch(&pools_latch);
+    for (struct task *task; (task = take_callback(served, &outcome)) != NULL;) {
+        give_latch(&pools_latch);
+        run_callback(task, outcome);
+        take_latch(&pools_latch);
+    }
+    give_latch(&pools_latch);
+}
+
+static void serve_all(void)
+{
+    serve(&watching_pool);
+    serve(&usual_pool);
+}
+
+static void CALLBACK close_wait(PTP_CALLBACK_INSTANCE instance, PVOID none, PTP_WAIT wait, TP_WAIT_RESULT result)
+{
+    (void)instance, (void)none, (void)result;
+    CloseThreadpoolWait(wait);
+    ran++;
+}
+
+static void with_refused_wait(void)
+{
+    ran = 0;
+    SetEvent(event);
+    must((wait_object = CreateThreadpoolWait(close_wait, NULL, NULL)) != NULL);
+}
+
+static void wait_has_closed(void)
+{
+    serve_all();
+    if (ran == 0)
+        CloseThreadpoolWait(wait_object);
+    ResetEvent(event);
+}
+
+static struct task *taken_up;
+static BOOL is_registered;
+
+/* (Its thread waits for the object again, until the end of the pair.) */
+static void take_up_once(void)
+{
+    uint32_t outcome;
+    take_latch(&pools_latch);
+    taken_up = take_callback(&watching_pool, &outcome);
+    give_latch(&pools_latch);
+    if (taken_up != NULL)
+        watch_once((struct watch *)(void *)taken_up);
+}
+
+static void with_refused_registered(void)
+{
+    ran = 0;
+    taken_up = NULL;
+    SetEvent(event);
+}
+
+static void register_without_thread(void)
+{
+    is_registered = RegisterWaitForSingleObject(&registered, event, note_wait, NULL, INFINITE, WT_EXECUTEINWAITTHREAD);
+}
+
+/* It is registered where its callback came, and else refused. */
+static void callback_came_of_registered(void)
+{
+    IS(is_registered, ran > 0);
+    if (is_registered)
+        UnregisterWait(registered);
+    if (taken_up != NULL) {
+        watch_object(taken_up, NULL, SIGNALED);
+        take_latch(&pools_latch);
+        taken_up->running--;
+        settle_task(taken_up);
+    }
+    ResetEvent(event);
+}
+
 int main(void)
 {
     begin_pairs();
@@ -310,6 +394,11 @@ int main(void)
     is_full = true;
     try_pair("TrySubmitThreadpoolCallback, without a thread", with_group, submit_to_group, close_members, group_has_run, 100);
     try_pair("WaitForThreadpoolWorkCallbacks, without a thread", with_refused_work, wait_for_refused_work, submit_while_full, work_alone_has_run, 50);
+    is_full = true;
+    try_pair("SetThreadpoolWait, without a thread", with_refused_wait, set_wait, serve_all, wait_has_closed, 50);
+    try_pair("RegisterWaitForSingleObject, without a thread", with_refused_registered, register_without_thread, take_up_once,
+             callback_came_of_registered, 50);
+    is_full = false;
     try_pair("UnregisterWaitEx", with_registered, unregister, signal_once, later_signal_stays, 50);
     try_pair("SetThreadpoolWait, twice at once", with_unset_wait, set_wait, set_wait, unset_wait, 50);
     return counted_checks();

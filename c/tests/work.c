@@ -269,6 +269,38 @@ static void canceled_work(void)
     CloseThreadpool(pool);
 }
 
+static DWORD WINAPI wait_for_work(LPVOID work)
+{
+    WaitForThreadpoolWorkCallbacks(work, FALSE);
+    return 0;
+}
+
+/* Who waits for callbacks goes on where another drops them. */
+static void dropped_beside_who_waits(void)
+{
+    TP_CALLBACK_ENVIRON environment;
+    LONG ran = 0, other = 0;
+    InitializeThreadpoolEnvironment(&environment);
+    SetThreadpoolCallbackPool(&environment, CreateThreadpool(NULL));
+    SetThreadpoolThreadMaximum(environment.Pool, 1);
+    PTP_WORK first = CreateThreadpoolWork(wait_in_work, &ran, &environment), second = CreateThreadpoolWork(do_work, &other, &environment);
+    ResetEvent(GO);
+    SubmitThreadpoolWork(first);
+    IS(settled(&ran, 1), 1);
+    SubmitThreadpoolWork(second);
+    HANDLE thread = CreateThread(NULL, 0, wait_for_work, second, 0, NULL);
+    IS(WaitForSingleObject(thread, 20), WAIT_TIMEOUT);
+    WaitForThreadpoolWorkCallbacks(second, TRUE);
+    IS(WaitForSingleObject(thread, 60000), WAIT_OBJECT_0);
+    SetEvent(GO);
+    WaitForThreadpoolWorkCallbacks(first, FALSE);
+    IS(other, 0);
+    CloseThreadpoolWork(first);
+    CloseThreadpoolWork(second);
+    CloseThreadpool(environment.Pool);
+    CloseHandle(thread);
+}
+
 static void CALLBACK note_timer(PTP_CALLBACK_INSTANCE instance, PVOID at, PTP_TIMER timer)
 {
     (void)instance;
@@ -393,6 +425,7 @@ int main(void)
     no_thread_left();
     left_callbacks();
     canceled_work();
+    dropped_beside_who_waits();
     pool_timers_and_waits();
     far_times();
     closed_while_submitted();

@@ -75,7 +75,7 @@ static uint32_t drop_callbacks(struct task *task)
 }
 
 /* Takes it out of its group, under the latch. Answers the group, where that is over now. */
-NTW_INTERNAL PTP_CLEANUP_GROUP leave_group(struct task *task)
+static PTP_CLEANUP_GROUP leave_group(struct task *task)
 {
     PTP_CLEANUP_GROUP group = task->group;
     if (group == NULL)
@@ -97,14 +97,21 @@ NTW_INTERNAL void end_group(PTP_CLEANUP_GROUP group)
     free(group);
 }
 
+static bool is_without_callback(const struct task *task)
+{
+    return task->running == 0 && to_come(task) == 0;
+}
+
 /* The task may be idle, under the latch, which is given back: then those who wait go on, and one that is closed is gone. */
 NTW_INTERNAL void settle_task(struct task *task)
 {
     PTP_POOL pool = task->pool;
-    const bool is_idle = task->running == 0 && to_come(task) == 0, ends = is_idle && task->is_closed;
+    const bool is_idle = is_without_callback(task), ends = is_idle && task->is_closed && task->holders == 0;
     HANDLE done = is_idle ? task->done : NULL;
-    if (is_idle)
+    if (is_idle) {
+        task->done = NULL; /* (It is the program's again once it is set.) */
         atomic_fetch_add_explicit(&task->ends, 1, memory_order_release);
+    }
     pool->tasks -= ends;
     PTP_CLEANUP_GROUP group = ends ? leave_group(task) : NULL;
     const bool pool_ends = ends && leave_pools(pool), pool_empties = ends && pool->is_closed && pool->tasks == 0;
@@ -263,17 +270,30 @@ NTW_INTERNAL DWORD WINAPI work_in_pool(LPVOID at)
     return is_to_exit ? own.seat->exit_code : 0;
 }
 
-/* Waits until the task has no callback, and tries meanwhile to have threads that were refused; first drops callbacks that have not begun, where
- * `cancels`. Answers how many were dropped. (In a child that was forked beside others no callback ends from then on, and none is waited for.) */
-NTW_INTERNAL uint32_t wait_for_task(struct task *task, bool cancels)
+/* Drops callbacks that have not begun. Answers whether there were any. (Others may wait for them, too.) */
+NTW_INTERNAL bool cancel_callbacks(struct task *task)
+{
+    if (is_at_latch())
+        return false;
+    take_latch(&pools_latch);
+    const bool is_any = drop_callbacks(task) > 0;
+    if (is_any)
+        settle_task(task);
+    else
+        give_latch(&pools_latch);
+    return is_any;
+}
+
+/* Waits until the task has no callback, and tries meanwhile to have threads that were refused. (In a child that was forked beside others no callback
+ * ends from then on, and none is waited for.) */
+NTW_INTERNAL void wait_for_task(struct task *task)
 {
     const DWORD error = own.last_error;
     bool is_refused = false;
     if (is_at_latch())
-        return 0;
+        return;
     take_latch(&pools_latch);
-    const uint32_t dropped = cancels ? drop_callbacks(task) : 0;
-    while (!process.is_forked && (task->running > 0 || to_come(task) > 0)) {
+    while (!process.is_forked && !is_without_callback(task)) {
         if (!is_refused && task->pool->lacking > 0) {
             is_refused = !bring_lacking(task->pool);
             continue;
@@ -286,22 +306,46 @@ NTW_INTERNAL uint32_t wait_for_task(struct task *task, bool cancels)
     }
     give_latch(&pools_latch);
     own.last_error = error;
-    return dropped;
 }
 
-/* The program needs it no longer: it is gone once its callbacks have ended. Answers whether that is now. */
+/* ---- A task is closed. Its callbacks may yet run, and use it as before; but none comes by itself any longer, though one of them asks for that. */
+
+NTW_INTERNAL bool is_ending(const struct task *task)
+{
+    return task->is_closed || task->holders > 0;
+}
+
+static void stop_task(struct task *task)
+{
+    if (task->stop != NULL)
+        task->stop(task);
+}
+
+/* Who closes it and waits for its callbacks has it from now on, under the latch: one of them may close it, too. */
+NTW_INTERNAL void hold_task(struct task *task)
+{
+    task->holders++;
+    stop_task(task);
+}
+
+/* The same has it no longer, and so it is gone, unless another has it. */
+NTW_INTERNAL void let_go_of_task(struct task *task)
+{
+    take_latch(&pools_latch);
+    task->holders--;
+    task->is_closed = true;
+    settle_task(task);
+}
+
+/* The program needs it no longer: it is gone once its callbacks have ended, and its group has it until then. Answers whether that is now. */
 NTW_INTERNAL bool close_task(struct task *task, HANDLE done)
 {
     if (is_at_latch())
         return false;
-    if (task->stop != NULL)
-        task->stop(task);
     take_latch(&pools_latch);
-    /* (A queue that is deleted has it until its callbacks have ended.) */
-    if (task->group != NULL && !task->group->is_closed)
-        leave_group(task);
+    stop_task(task);
     task->is_closed = true;
-    const bool is_idle = task->running == 0 && to_come(task) == 0;
+    const bool is_idle = is_without_callback(task);
     task->done = done;
     settle_task(task);
     return is_idle;
@@ -313,10 +357,11 @@ NTW_INTERNAL BOOL end_task(struct task *task, HANDLE event)
     if (is_at_latch())
         return FALSE;
     if (event == INVALID_HANDLE_VALUE) {
-        if (task->stop != NULL)
-            task->stop(task);
-        wait_for_task(task, false);
-        close_task(task, NULL);
+        take_latch(&pools_latch);
+        hold_task(task);
+        give_latch(&pools_latch);
+        wait_for_task(task);
+        let_go_of_task(task);
         return TRUE;
     }
     return close_task(task, event) || fail(ERROR_IO_PENDING);

@@ -46,12 +46,14 @@ struct task {
     uint32_t waiting[OUTCOMES];  /* how many callbacks are to come, by how it came to them */
     uint32_t running;
     bool is_queued, is_closed;
+    uint32_t holders;            /* how many close it, and have it until its callbacks have ended */
+    bool is_canceled;            /* callbacks of it were dropped as its group was closed */
     _Atomic uint32_t ends;       /* how often it came to have none of either: the word that others sleep on */
     HANDLE done;                 /* an event that is set once it has none of either; null where there is none */
     PTP_CLEANUP_GROUP group;
     struct task *earlier, *later; /* in the group */
     PTP_CLEANUP_GROUP_CANCEL_CALLBACK cancel;
-    void (*stop)(struct task *task); /* no callback comes any longer by itself; null where none does */
+    void (*stop)(struct task *task); /* no callback comes any longer by itself, under the latch; null where none does */
     struct watch *watch;         /* what waits for its object; null where nothing does */
 };
 
@@ -88,13 +90,16 @@ struct _TP_CLEANUP_GROUP {
 };
 
 NTW_INTERNAL void submit(struct task *task);
-NTW_INTERNAL PTP_CLEANUP_GROUP leave_group(struct task *task);
 NTW_INTERNAL void end_group(PTP_CLEANUP_GROUP group);
 NTW_INTERNAL void settle_task(struct task *task);
 NTW_INTERNAL void call_back(struct task *task, uint32_t outcome, bool in_thread);
 NTW_INTERNAL bool try_to_submit(struct task *task);
 NTW_INTERNAL DWORD WINAPI work_in_pool(LPVOID at);
-NTW_INTERNAL uint32_t wait_for_task(struct task *task, bool cancels);
+NTW_INTERNAL bool is_ending(const struct task *task);
+NTW_INTERNAL void hold_task(struct task *task);
+NTW_INTERNAL void let_go_of_task(struct task *task);
+NTW_INTERNAL bool cancel_callbacks(struct task *task);
+NTW_INTERNAL void wait_for_task(struct task *task);
 NTW_INTERNAL bool close_task(struct task *task, HANDLE done);
 NTW_INTERNAL BOOL end_task(struct task *task, HANDLE event);
 
@@ -115,6 +120,7 @@ struct watch {
     DWORD ms;
     uint64_t moment;       /* to which it waits at the longest, or NEVER */
     bool is_once, in_thread;
+    bool has_told;         /* a callback came of it */
     bool is_stopped;       /* `told` is no longer touched */
 };
 

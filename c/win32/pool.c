@@ -4,9 +4,9 @@
  * pool keeps; and so does one that is past the most, once its callback has returned. */
 #include "internal.h"
 
-/* One latch for all pools, and what lies in them. */
+/* One latch for all pools, and what lies in them. (Each object that is watched has a thread to itself; watch.c bounds how many are.) */
 NTW_INTERNAL _Atomic uint32_t pools_latch;
-NTW_INTERNAL struct _TP_POOL watching_pool = { .most = WATCHES }, usual_pool = { .most = USUAL_MAXIMUM, .next = &watching_pool };
+NTW_INTERNAL struct _TP_POOL watching_pool = { .most = UINT32_MAX }, usual_pool = { .most = USUAL_MAXIMUM, .next = &watching_pool };
 NTW_INTERNAL PTP_POOL pools = &usual_pool;
 NTW_INTERNAL _Atomic uint32_t keeper_calls; /* how often the keeper of timers was called: the word that it sleeps on (timers.c) */
 

@@ -226,7 +226,9 @@ void SubmitThreadpoolWork(PTP_WORK work)
 
 void WaitForThreadpoolWorkCallbacks(PTP_WORK work, BOOL cancels)
 {
-    wait_for_task(&work->task, cancels != FALSE);
+    if (cancels)
+        cancel_callbacks(&work->task);
+    wait_for_task(&work->task);
 }
 
 void CloseThreadpoolWork(PTP_WORK work)
@@ -270,30 +272,66 @@ PTP_CLEANUP_GROUP CreateThreadpoolCleanupGroup(void)
     return group;
 }
 
+/* Takes its members out of a group, to be closed: a list of them, each with the next as its later one. */
+static struct task *hold_members(PTP_CLEANUP_GROUP group)
+{
+    take_latch(&pools_latch);
+    struct task *members = group->first;
+    group->first = NULL;
+    for (struct task *task = members; task != NULL; task = task->later) {
+        task->group = NULL;
+        hold_task(task);
+    }
+    give_latch(&pools_latch);
+    return members;
+}
+
+/* One of them that has a callback; null where none has, or none ends since the process is forked. */
+static struct task *busy_one(struct task *members)
+{
+    struct task *task = members;
+    take_latch(&pools_latch);
+    while (task != NULL && task->running == 0 && to_come(task) == 0)
+        task = task->later;
+    give_latch(&pools_latch);
+    return process.is_forked ? NULL : task;
+}
+
+/* (A callback of one may submit another, which is there until all have ended.) */
+static void wait_for_members(struct task *members)
+{
+    for (struct task *task; (task = busy_one(members)) != NULL;)
+        wait_for_task(task);
+}
+
 void CloseThreadpoolCleanupGroupMembers(PTP_CLEANUP_GROUP group, BOOL cancels, PVOID context)
 {
-    while (!is_at_latch()) {
-        take_latch(&pools_latch);
-        struct task *task = group->first;
-        if (task != NULL)
-            leave_group(task);
-        /* (One that would be gone by itself is kept until it is closed here.) */
-        if (task != NULL)
-            task->is_closed = false;
-        give_latch(&pools_latch);
-        if (task == NULL)
-            return;
-        if (task->stop != NULL)
-            task->stop(task);
-        if (wait_for_task(task, cancels != FALSE) > 0 && task->cancel != NULL)
-            task->cancel(task->context, context);
-        close_task(task, NULL);
+    for (struct task *members, *next; !is_at_latch() && (members = hold_members(group)) != NULL;) {
+        for (struct task *task = members; task != NULL; task = task->later)
+            task->is_canceled = cancels && cancel_callbacks(task);
+        wait_for_members(members);
+        for (struct task *task = members; task != NULL; task = task->later)
+            if (task->is_canceled && task->cancel != NULL)
+                task->cancel(task->context, context);
+        wait_for_members(members);
+        for (struct task *task = members; task != NULL; task = next) {
+            next = task->later;
+            let_go_of_task(task);
+        }
     }
 }
 
+/* (A member that a callback has closed is in it until that has ended.) */
 void CloseThreadpoolCleanupGroup(PTP_CLEANUP_GROUP group)
 {
-    free(group);
+    if (is_at_latch())
+        return;
+    take_latch(&pools_latch);
+    group->is_closed = true;
+    const bool is_empty = group->first == NULL;
+    give_latch(&pools_latch);
+    if (is_empty)
+        end_group(group);
 }
 
 /* ---- What a callback asks for. */

@@ -184,7 +184,7 @@ NTW_INTERNAL void set_pool_timer(PTP_TIMER timer, uint64_t due, DWORD period)
     take_latch(&pools_latch);
     timer->period = period;
     timer->is_over = false;
-    if (due == NEVER)
+    if (due == NEVER || is_ending(&timer->task))
         drop_timer(timer);
     else
         put_timer(timer, due);
@@ -195,9 +195,7 @@ NTW_INTERNAL void set_pool_timer(PTP_TIMER timer, uint64_t due, DWORD period)
 
 static void stop_timer(struct task *task)
 {
-    take_latch(&pools_latch);
     drop_timer((PTP_TIMER)(void *)task);
-    give_latch(&pools_latch);
 }
 
 static void call_timer(struct task *task, PTP_CALLBACK_INSTANCE instance, uint32_t outcome)
@@ -258,7 +256,9 @@ BOOL IsThreadpoolTimerSet(PTP_TIMER timer)
 
 void WaitForThreadpoolTimerCallbacks(PTP_TIMER timer, BOOL cancels)
 {
-    wait_for_task(&timer->task, cancels != FALSE);
+    if (cancels)
+        cancel_callbacks(&timer->task);
+    wait_for_task(&timer->task);
 }
 
 void CloseThreadpoolTimer(PTP_TIMER timer)
@@ -333,7 +333,7 @@ BOOL DeleteTimerQueueEx(HANDLE queue, HANDLE event)
         return FALSE;
     if (event == INVALID_HANDLE_VALUE) {
         CloseThreadpoolCleanupGroupMembers(group, FALSE, NULL);
-        free(group);
+        CloseThreadpoolCleanupGroup(group);
         return TRUE;
     }
     take_latch(&pools_latch);

@@ -2,22 +2,23 @@
 /* ---- Objects that are waited for on behalf of callbacks: each by a thread of a pool of its own. */
 #include "internal.h"
 
+static uint32_t watched; /* how many objects are waited for, under the latch: a watch that is stopped may have yet to end */
+
+static void note_stop(struct watch *watch)
+{
+    watch->is_stopped = true;
+    watched--;
+}
+
 /* The object is not waited for any longer, under the latch: what is signaled from now on stays so. */
 static void drop_watch(struct task *told)
 {
     struct watch *watch = told->watch;
     told->watch = NULL;
     if (watch != NULL) {
-        watch->is_stopped = true;
+        note_stop(watch);
         SetEvent(watch->stop);
     }
-}
-
-static void stop_watch(struct task *told)
-{
-    take_latch(&pools_latch);
-    drop_watch(told);
-    give_latch(&pools_latch);
 }
 
 /* The wait has ended so: a callback is to come. Answers whether the object is waited for once more. */
@@ -30,9 +31,10 @@ static bool tell_watched(struct watch *watch, uint32_t outcome)
         return false;
     }
     const bool goes_on = !watch->is_once;
+    watch->has_told = true;
     if (!goes_on) {
         told->watch = NULL;
-        watch->is_stopped = true;
+        note_stop(watch);
     }
     call_back(told, outcome, watch->in_thread);
     return goes_on;
@@ -76,31 +78,36 @@ static void free_watch(struct task *task)
 {
     struct watch *watch = (struct watch *)(void *)task;
     take_latch(&pools_latch);
-    if (!watch->is_stopped)
+    if (!watch->is_stopped) {
         watch->told->watch = NULL;
+        note_stop(watch);
+    }
     give_latch(&pools_latch);
     CloseHandle(watch->stop);
     free(watch);
 }
 
-/* Puts a watch into the queue, where there is room for one more; it is the only one of what it tells, which another thread may have given one meanwhile.
- * Answers 0, or why not: then it is gone. */
+/* Puts a watch into the queue, under the latch, which is given back. It is the only one of what it tells, which another thread may have given one
+ * meanwhile. Answers 0, or why the object is not waited for. (What it tells may be gone once the latch is given back, and the watch is not: so it is
+ * known whether it was stopped. One of which a callback came has the thread of another, which the keeper of timers tries to have.) */
 static uint32_t put_watch(struct watch *watch)
 {
-    take_latch(&pools_latch);
-    if (watching_pool.tasks == WATCHES) {
-        give_latch(&pools_latch);
-        watch->is_stopped = true;
-        free_watch(&watch->task);
-        return ERROR_NO_SYSTEM_RESOURCES;
-    }
     watching_pool.tasks++;
+    watched++;
     drop_watch(watch->told);
     watch->told->watch = watch;
-    return try_to_submit(&watch->task) ? 0 : own.last_error;
+    watch->task.holders++;
+    const uint32_t refused = try_to_submit(&watch->task) ? 0 : own.last_error;
+    take_latch(&pools_latch);
+    const bool is_refused = refused != 0 && !watch->is_stopped && !watch->has_told;
+    if (is_refused)
+        drop_watch(watch->told);
+    watch->task.holders--;
+    settle_task(&watch->task);
+    return is_refused ? refused : 0;
 }
 
-/* Has an object waited for. Answers 0, or why not. */
+/* Has an object waited for, but not for what ends. Answers 0, or why not. */
 static uint32_t begin_watch(struct task *told, const struct watch *how)
 {
     const DWORD error = own.last_error;
@@ -116,14 +123,14 @@ static uint32_t begin_watch(struct task *told, const struct watch *how)
         return own.last_error;
     }
     own.last_error = error;
-    const uint32_t refused = put_watch(watch);
-    if (refused == 0)
-        return 0;
     take_latch(&pools_latch);
-    if (told->watch == watch)
-        drop_watch(told);
+    const bool ends = is_ending(told);
+    if (!ends && watched < WATCHES)
+        return put_watch(watch);
     give_latch(&pools_latch);
-    return refused;
+    CloseHandle(watch->stop);
+    free(watch);
+    return ends ? 0 : ERROR_NO_SYSTEM_RESOURCES;
 }
 
 /* ---- Registered waits. */
@@ -160,7 +167,7 @@ BOOL RegisterWaitForSingleObject(PHANDLE wait, HANDLE object, WAITORTIMERCALLBAC
         return FALSE;
     made->task.call = call_registered;
     made->task.end = free_task;
-    made->task.stop = stop_watch;
+    made->task.stop = drop_watch;
     made->callback = callback;
     open_task(&made->task, context, NULL);
     *wait = (HANDLE)made;
@@ -206,7 +213,7 @@ PTP_WAIT CreateThreadpoolWait(PTP_WAIT_CALLBACK callback, PVOID context, PTP_CAL
         return NULL;
     wait->task.call = call_wait;
     wait->task.end = free_task;
-    wait->task.stop = stop_watch;
+    wait->task.stop = drop_watch;
     wait->callback = callback;
     open_task(&wait->task, context, environment);
     return wait;
@@ -226,7 +233,9 @@ void SetThreadpoolWait(PTP_WAIT wait, HANDLE object, PFILETIME timeout)
 {
     if (is_at_latch())
         return;
-    stop_watch(&wait->task);
+    take_latch(&pools_latch);
+    drop_watch(&wait->task);
+    give_latch(&pools_latch);
     if (object != NULL)
         begin_watch(&wait->task, &(struct watch){ .object = object, .ms = INFINITE, .is_once = true,
                                                   .moment = timeout != NULL ? moment_of_time(timeout) : NEVER });
@@ -234,7 +243,9 @@ void SetThreadpoolWait(PTP_WAIT wait, HANDLE object, PFILETIME timeout)
 
 void WaitForThreadpoolWaitCallbacks(PTP_WAIT wait, BOOL cancels)
 {
-    wait_for_task(&wait->task, cancels != FALSE);
+    if (cancels)
+        cancel_callbacks(&wait->task);
+    wait_for_task(&wait->task);
 }
 
 void CloseThreadpoolWait(PTP_WAIT wait)
