@@ -162,9 +162,10 @@ static void CALLBACK count_work(PTP_CALLBACK_INSTANCE instance, PVOID ran, PTP_W
     InterlockedIncrement(ran);
 }
 
-static void CALLBACK note_late(PVOID none, BOOLEAN timed_out)
+static void CALLBACK count_late(PVOID came, BOOLEAN timed_out)
 {
-    (void)none, (void)timed_out;
+    (void)timed_out;
+    InterlockedIncrement(came);
 }
 
 static void stay(LONG *steps)
@@ -223,26 +224,53 @@ static void closed_members(void)
     IS(settled(&ended, 2), 2);
 }
 
-static void CALLBACK change_timers(PVOID ended, BOOLEAN timed_out)
+static void CALLBACK end_first(PVOID steps, BOOLEAN timed_out)
 {
     (void)timed_out;
-    SetEvent(DONE);
-    Sleep(20);
-    ANSWERS(ChangeTimerQueueTimer(QUEUE, OTHER_TIMER, 100000, 0), TRUE, UNTOUCHED);
-    ANSWERS(DeleteTimerQueueTimer(QUEUE, OWN_TIMER, NULL), FALSE, ERROR_IO_PENDING);
-    Sleep(20);
-    InterlockedIncrement(ended);
+    stay(steps);
 }
 
-static void closed_queue(void)
+/* Once the queue is being deleted, and the callback of another timer has ended. */
+static void CALLBACK change_timers(PVOID steps, BOOLEAN timed_out)
 {
-    LONG ended = 0;
+    (void)timed_out;
+    InterlockedIncrement(steps);
+    IS(settled(steps, 3), 3);
+    ANSWERS(ChangeTimerQueueTimer(QUEUE, OTHER_TIMER, 0, 0), TRUE, UNTOUCHED);
+    ANSWERS(DeleteTimerQueueTimer(QUEUE, OTHER_TIMER, NULL), TRUE, UNTOUCHED);
+    ANSWERS(DeleteTimerQueueTimer(QUEUE, OWN_TIMER, NULL), FALSE, ERROR_IO_PENDING);
+    Sleep(20);
+    InterlockedIncrement(steps);
+}
+
+static DWORD WINAPI go_on_later(LPVOID none)
+{
+    (void)none;
+    Sleep(20);
+    SetEvent(GO);
+    return 0;
+}
+
+/* A queue is deleted beside callbacks, with an event or not, or as the call that waits does it. */
+static void closed_queue(HANDLE done)
+{
+    LONG steps = 0, came = 0;
+    HANDLE timer, thread;
+    ResetEvent(GO);
     QUEUE = CreateTimerQueue();
-    must(CreateTimerQueueTimer(&OWN_TIMER, QUEUE, change_timers, &ended, 5, 0, WT_EXECUTEDEFAULT));
-    must(CreateTimerQueueTimer(&OTHER_TIMER, QUEUE, note_late, NULL, 100000, 0, WT_EXECUTEDEFAULT));
-    must(WaitForSingleObject(DONE, INFINITE) == WAIT_OBJECT_0);
-    ANSWERS(DeleteTimerQueueEx(QUEUE, INVALID_HANDLE_VALUE), TRUE, UNTOUCHED);
-    IS(ReadAcquire(&ended), 1);
+    must(CreateTimerQueueTimer(&OTHER_TIMER, QUEUE, count_late, &came, 100000, 0, WT_EXECUTEDEFAULT));
+    must(CreateTimerQueueTimer(&timer, QUEUE, end_first, &steps, 0, 0, WT_EXECUTEDEFAULT));
+    must(CreateTimerQueueTimer(&OWN_TIMER, QUEUE, change_timers, &steps, 0, 0, WT_EXECUTEDEFAULT));
+    IS(settled(&steps, 2), 2);
+    must((thread = CreateThread(NULL, 0, go_on_later, NULL, 0, NULL)) != NULL);
+    if (done == INVALID_HANDLE_VALUE)
+        ANSWERS(DeleteTimerQueueEx(QUEUE, done), TRUE, UNTOUCHED);
+    else
+        ANSWERS(DeleteTimerQueueEx(QUEUE, done), FALSE, ERROR_IO_PENDING);
+    IS(done == NULL || done == INVALID_HANDLE_VALUE || WaitForSingleObject(done, 60000) == WAIT_OBJECT_0, TRUE);
+    IS(done == NULL ? settled(&steps, 4) : ReadAcquire(&steps), 4);
+    IS(later(&came), 0);
+    must(WaitForSingleObject(thread, INFINITE) == WAIT_OBJECT_0 && CloseHandle(thread));
 }
 
 static void CALLBACK set_timer_when_closed(PTP_CALLBACK_INSTANCE instance, PVOID steps, PTP_TIMER timer)
@@ -285,7 +313,9 @@ int main(void)
     killed_as_they_run();
     the_most();
     closed_members();
-    closed_queue();
+    closed_queue(INVALID_HANDLE_VALUE);
+    closed_queue(DONE);
+    closed_queue(NULL);
     set_once_closed();
     must(CloseHandle(EVENT));
     return counted();

@@ -90,6 +90,16 @@ static PTP_CLEANUP_GROUP leave_group(struct task *task)
     return group->is_closed && group->first == NULL ? group : NULL;
 }
 
+/* Takes its members out of a group, under the latch: a list of them, each with the next as its later one. */
+NTW_INTERNAL struct task *take_members(PTP_CLEANUP_GROUP group)
+{
+    struct task *members = group->first;
+    group->first = NULL;
+    for (struct task *task = members; task != NULL; task = task->later)
+        task->group = NULL;
+    return members;
+}
+
 NTW_INTERNAL void end_group(PTP_CLEANUP_GROUP group)
 {
     if (group->done != NULL)
@@ -97,9 +107,19 @@ NTW_INTERNAL void end_group(PTP_CLEANUP_GROUP group)
     free(group);
 }
 
-static bool is_without_callback(const struct task *task)
+NTW_INTERNAL bool is_without_callback(const struct task *task)
 {
     return task->running == 0 && to_come(task) == 0;
+}
+
+/* A task has no callback any longer, under the latch. Answers its group, where that had it until now, and has none more that has one. */
+static PTP_CLEANUP_GROUP group_awaited_to(struct task *task)
+{
+    PTP_CLEANUP_GROUP group = task->group;
+    if (!task->is_awaited)
+        return NULL;
+    task->is_awaited = false;
+    return --group->awaited == 0 ? group : NULL;
 }
 
 /* The task may be idle, under the latch, which is given back: then those who wait go on, and one that is closed is gone. */
@@ -108,12 +128,13 @@ NTW_INTERNAL void settle_task(struct task *task)
     PTP_POOL pool = task->pool;
     const bool is_idle = is_without_callback(task), ends = is_idle && task->is_closed && task->holders == 0;
     HANDLE done = is_idle ? task->done : NULL;
+    PTP_CLEANUP_GROUP group = ends ? leave_group(task) : is_idle ? group_awaited_to(task) : NULL;
+    struct task *members = group != NULL ? take_members(group) : NULL;
     if (is_idle) {
         task->done = NULL; /* (It is the program's again once it is set.) */
         atomic_fetch_add_explicit(&task->ends, 1, memory_order_release);
     }
     pool->tasks -= ends;
-    PTP_CLEANUP_GROUP group = ends ? leave_group(task) : NULL;
     const bool pool_ends = ends && leave_pools(pool), pool_empties = ends && pool->is_closed && pool->tasks == 0;
     if (pool_empties)
         atomic_fetch_add_explicit(&pool->calls, 1, memory_order_relaxed);
@@ -124,6 +145,7 @@ NTW_INTERNAL void settle_task(struct task *task)
         SetEvent(done);
     if (ends)
         task->end(task);
+    let_go_of_members(members);
     if (group != NULL)
         end_group(group);
     if (pool_ends)
@@ -329,12 +351,21 @@ NTW_INTERNAL void hold_task(struct task *task)
 }
 
 /* The same has it no longer, and so it is gone, unless another has it. */
-NTW_INTERNAL void let_go_of_task(struct task *task)
+static void let_go_of_task(struct task *task)
 {
     take_latch(&pools_latch);
     task->holders--;
     task->is_closed = true;
     settle_task(task);
+}
+
+/* The same of all members that were taken out of a group. */
+NTW_INTERNAL void let_go_of_members(struct task *members)
+{
+    for (struct task *task = members, *next; task != NULL; task = next) {
+        next = task->later;
+        let_go_of_task(task);
+    }
 }
 
 /* The program needs it no longer: it is gone once its callbacks have ended, and its group has it until then. Answers whether that is now. */

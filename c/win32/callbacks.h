@@ -48,6 +48,7 @@ struct task {
     bool is_queued, is_closed;
     uint32_t holders;            /* how many close it, and have it until its callbacks have ended */
     bool is_canceled;            /* callbacks of it were dropped as its group was closed */
+    bool is_awaited;             /* its group has it until those of all have ended */
     _Atomic uint32_t ends;       /* how often it came to have none of either: the word that others sleep on */
     HANDLE done;                 /* an event that is set once it has none of either; null where there is none */
     PTP_CLEANUP_GROUP group;
@@ -85,19 +86,22 @@ NTW_INTERNAL bool bring_lacking(PTP_POOL pool);
 
 struct _TP_CLEANUP_GROUP {
     struct task *first;
-    bool is_closed; /* it is gone once its last task has left it, */
-    HANDLE done;    /* and then this event is set; null where there is none */
+    bool is_closed;   /* it is gone once its last task has left it, */
+    uint32_t awaited; /* or once none of so many has a callback any longer: then all of them are, too; */
+    HANDLE done;      /* and then this event is set; null where there is none */
 };
 
 NTW_INTERNAL void submit(struct task *task);
+NTW_INTERNAL struct task *take_members(PTP_CLEANUP_GROUP group);
 NTW_INTERNAL void end_group(PTP_CLEANUP_GROUP group);
+NTW_INTERNAL bool is_without_callback(const struct task *task);
 NTW_INTERNAL void settle_task(struct task *task);
 NTW_INTERNAL void call_back(struct task *task, uint32_t outcome, bool in_thread);
 NTW_INTERNAL bool try_to_submit(struct task *task);
 NTW_INTERNAL DWORD WINAPI work_in_pool(LPVOID at);
 NTW_INTERNAL bool is_ending(const struct task *task);
 NTW_INTERNAL void hold_task(struct task *task);
-NTW_INTERNAL void let_go_of_task(struct task *task);
+NTW_INTERNAL void let_go_of_members(struct task *members);
 NTW_INTERNAL bool cancel_callbacks(struct task *task);
 NTW_INTERNAL void wait_for_task(struct task *task);
 NTW_INTERNAL bool close_task(struct task *task, HANDLE done);

@@ -272,16 +272,13 @@ PTP_CLEANUP_GROUP CreateThreadpoolCleanupGroup(void)
     return group;
 }
 
-/* Takes its members out of a group, to be closed: a list of them, each with the next as its later one. */
+/* Takes its members out of a group, to be closed. */
 static struct task *hold_members(PTP_CLEANUP_GROUP group)
 {
     take_latch(&pools_latch);
-    struct task *members = group->first;
-    group->first = NULL;
-    for (struct task *task = members; task != NULL; task = task->later) {
-        task->group = NULL;
+    struct task *members = take_members(group);
+    for (struct task *task = members; task != NULL; task = task->later)
         hold_task(task);
-    }
     give_latch(&pools_latch);
     return members;
 }
@@ -291,7 +288,7 @@ static struct task *busy_one(struct task *members)
 {
     struct task *task = members;
     take_latch(&pools_latch);
-    while (task != NULL && task->running == 0 && to_come(task) == 0)
+    while (task != NULL && is_without_callback(task))
         task = task->later;
     give_latch(&pools_latch);
     return process.is_forked ? NULL : task;
@@ -306,7 +303,7 @@ static void wait_for_members(struct task *members)
 
 void CloseThreadpoolCleanupGroupMembers(PTP_CLEANUP_GROUP group, BOOL cancels, PVOID context)
 {
-    for (struct task *members, *next; !is_at_latch() && (members = hold_members(group)) != NULL;) {
+    for (struct task *members; !is_at_latch() && (members = hold_members(group)) != NULL;) {
         for (struct task *task = members; task != NULL; task = task->later)
             task->is_canceled = cancels && cancel_callbacks(task);
         wait_for_members(members);
@@ -314,10 +311,7 @@ void CloseThreadpoolCleanupGroupMembers(PTP_CLEANUP_GROUP group, BOOL cancels, P
             if (task->is_canceled && task->cancel != NULL)
                 task->cancel(task->context, context);
         wait_for_members(members);
-        for (struct task *task = members; task != NULL; task = next) {
-            next = task->later;
-            let_go_of_task(task);
-        }
+        let_go_of_members(members);
     }
 }
 

@@ -311,17 +311,15 @@ BOOL DeleteTimerQueueTimer(HANDLE queue, HANDLE timer, HANDLE event)
     return end_task(&((PTP_TIMER)timer)->task, event);
 }
 
-/* No timer of the queue is due any longer, and each is gone once its callbacks have ended, under the latch. Answers one that has none, or null. */
-static struct task *close_timers(PTP_CLEANUP_GROUP queue)
+/* No timer of the queue is due any longer, and all are there until the callbacks of all have ended, under the latch. Answers whether any has one. */
+static bool close_timers(PTP_CLEANUP_GROUP queue)
 {
-    struct task *idle = NULL;
     for (struct task *task = queue->first; task != NULL; task = task->later) {
-        drop_timer((PTP_TIMER)(void *)task);
-        task->is_closed = true;
-        if (task->running == 0 && to_come(task) == 0)
-            idle = task;
+        hold_task(task);
+        task->is_awaited = !is_without_callback(task);
+        queue->awaited += task->is_awaited;
     }
-    return idle;
+    return queue->awaited > 0;
 }
 
 BOOL DeleteTimerQueueEx(HANDLE queue, HANDLE event)
@@ -337,17 +335,15 @@ BOOL DeleteTimerQueueEx(HANDLE queue, HANDLE event)
         return TRUE;
     }
     take_latch(&pools_latch);
-    for (struct task *idle; (idle = close_timers(group)) != NULL;) {
-        settle_task(idle);
-        take_latch(&pools_latch);
-    }
-    group->is_closed = true;
     group->done = event;
-    const bool is_busy = group->first != NULL;
+    const bool is_busy = close_timers(group);
+    struct task *timers_of_it = is_busy ? NULL : take_members(group);
     give_latch(&pools_latch);
-    if (!is_busy)
-        end_group(group);
-    return !is_busy || fail(ERROR_IO_PENDING);
+    if (is_busy)
+        return fail(ERROR_IO_PENDING);
+    let_go_of_members(timers_of_it);
+    end_group(group);
+    return TRUE;
 }
 
 BOOL DeleteTimerQueue(HANDLE queue)
