@@ -33,7 +33,7 @@ NTW_INTERNAL void write_thread(struct report *to, uint32_t number)
         write_wide_name(to, name);
     } else if (waiting.seats[number].start != NULL) {
         write_mark(to, MARK_OF_NAME, (uintptr_t)waiting.seats[number].start);
-    } else if (waiting.seats[number].life.task == process.id && !is_scheduled) {
+    } else if (waiting.seats[number].life.task == getpid() && !is_scheduled) {
         add_text(to, " main");
     }
 }
