@@ -15,13 +15,13 @@ NTW_INTERNAL bool has_input(const void *at)
     return real.poll(it->files, it->count, 0) != 0;
 }
 
-/* Sleeps until one is ready, or this moment has come. */
+/* Sleeps until one is ready, or this moment has come. (Of several who wait for one another may have taken what came.) */
 static void wait_for_files(const char *call, struct pollfd *files, nfds_t count, uint64_t until, const void *place)
 {
     const struct polled polled = { files, count };
     const struct blocked blocked = { call, &polled, place, has_input };
     const int error = errno;
-    if (!has_input(&polled) && until > schedule.now)
+    while (!has_input(&polled) && until > schedule.now)
         sleep_in(&blocked, until);
     errno = error;
 }

@@ -137,7 +137,8 @@ int case_journal_beside_output(int count, char **words)
 
 /* scheduled_calls. Within 10 s, unsanitized: 1 passed, 0 failed.
  *
- * Beside a scheduler a call of the system may have any fourth number, which is an address in some calls alone, and a wait may be as long as can be. */
+ * Beside a scheduler a call of the system may have any fourth number, which is an address in some calls alone, and a wait may be as long as can be.
+ * Of two that read from one pipe the other waits on, where one has taken what came. */
 
 static DWORD write_later(LPVOID end)
 {
@@ -146,9 +147,17 @@ static DWORD write_later(LPVOID end)
     return 0;
 }
 
+static DWORD read_one(LPVOID end)
+{
+    char byte;
+    must(read(*(const int *)end, &byte, 1) == 1);
+    return 0;
+}
+
 static int call_by_schedule(void)
 {
     int ends[2];
+    HANDLE readers[2];
     fd_set reads;
     struct timeval longest = { .tv_sec = LONG_MAX };
     IS(syscall(SYS_openat, AT_FDCWD, "/dev/null", O_RDONLY, 0644L) >= 0, 1);
@@ -156,6 +165,14 @@ static int call_by_schedule(void)
     FD_ZERO(&reads);
     FD_SET(ends[0], &reads);
     IS(select(ends[0] + 1, &reads, NULL, NULL, &longest), 1);
+    IS(read_one(&ends[0]), 0);
+    for (int i = 0; i < 2; i++)
+        must((readers[i] = CreateThread(NULL, 0, read_one, &ends[0], 0, NULL)) != NULL);
+    for (int i = 0; i < 2; i++) {
+        Sleep(1);
+        must(write(ends[1], "y", 1) == 1);
+    }
+    IS(WaitForMultipleObjects(2, readers, TRUE, INFINITE), WAIT_OBJECT_0);
     return counted();
 }
 
@@ -166,7 +183,7 @@ int case_scheduled_calls(int count, char **words)
         return call_by_schedule();
     const pid_t child = fork();
     if (child == 0) {
-        setenv("NTWIN_SCHEDULE", "random:1", 1);
+        setenv("NTWIN_SCHEDULE", "random:1;seconds=5", 1);
         must(freopen("/dev/null", "w", stdout) != NULL && freopen("/dev/null", "w", stderr) != NULL);
         execl("/proc/self/exe", words[0], "again", (char *)NULL);
         _exit(2);

@@ -209,6 +209,26 @@ static void descriptors()
     close(ends[1]);
 }
 
+// Of two that wait for one descriptor the other waits on, where one has taken what came.
+static void two_readers()
+{
+    int ends[2];
+    std::atomic<int> sum{ 0 };
+    assert(pipe(ends) == 0);
+    auto reads = [&] {
+        char byte = 0;
+        assert(read(ends[0], &byte, 1) == 1);
+        sum += byte;
+    };
+    std::thread one(reads), other(reads);
+    assert(usleep(1000) == 0 && write(ends[1], "x", 1) == 1 && usleep(1000) == 0 && write(ends[1], "y", 1) == 1);
+    one.join();
+    other.join();
+    assert(sum == 'x' + 'y');
+    close(ends[0]);
+    close(ends[1]);
+}
+
 // The fourth number of a call is no time but in a wait on a word.
 static void system_calls()
 {
@@ -251,7 +271,8 @@ static int answer_of()
 
 int main()
 {
-    void (*const all[])() = { joins, mutexes, readers_and_writers, semaphores, conditions, once, barriers, descriptors, system_calls, clocks };
+    void (*const all[])() = { joins, mutexes, readers_and_writers, semaphores, conditions, once, barriers, descriptors, two_readers,
+                                 system_calls, clocks };
     for (void (*one)() : all)
         one();
     assert(std::async(std::launch::async, answer_of).get() == 42);
