@@ -343,6 +343,7 @@ static void wait_has_closed(void)
 
 static struct task *taken_up;
 static BOOL is_registered;
+static DWORD error_of_register;
 
 /* (Its thread waits for the object again, until the end of the pair.) */
 static void take_up_once(void)
@@ -364,13 +365,16 @@ static void with_refused_registered(void)
 
 static void register_without_thread(void)
 {
+    SetLastError(ERROR_FILE_NOT_FOUND);
     is_registered = RegisterWaitForSingleObject(&registered, event, note_wait, NULL, INFINITE, WT_EXECUTEINWAITTHREAD);
+    error_of_register = GetLastError();
 }
 
 /* It is registered where its callback came, and else refused. */
 static void callback_came_of_registered(void)
 {
     IS(is_registered, ran > 0);
+    IS(error_of_register, is_registered ? ERROR_FILE_NOT_FOUND : ERROR_NOT_ENOUGH_MEMORY);
     if (is_registered)
         UnregisterWait(registered);
     if (taken_up != NULL) {

@@ -92,6 +92,7 @@ static void free_watch(struct task *task)
  * known whether it was stopped. One of which a callback came has the thread of another, which the keeper of timers tries to have.) */
 static uint32_t put_watch(struct watch *watch)
 {
+    const DWORD error = own.last_error;
     watching_pool.tasks++;
     watched++;
     drop_watch(watch->told);
@@ -104,6 +105,7 @@ static uint32_t put_watch(struct watch *watch)
         drop_watch(watch->told);
     watch->task.holders--;
     settle_task(&watch->task);
+    own.last_error = error;
     return is_refused ? refused : 0;
 }
 
