@@ -224,6 +224,7 @@ NTW_INTERNAL bool is_in_run(void);
 NTW_INTERNAL bool comes_from_program(void);
 NTW_INTERNAL bool comes_to(const volatile void *object);
 NTW_INTERNAL bool has_come_for(const struct scheduled *it);
+NTW_INTERNAL bool sleep_by_bits(const struct blocked *blocked, uint64_t until, uint32_t bits);
 NTW_INTERNAL bool sleep_in(const struct blocked *blocked, uint64_t until);
 NTW_INTERNAL bool has_points(void);
 NTW_INTERNAL void tell_before(const void *object);

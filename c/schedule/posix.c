@@ -37,13 +37,14 @@ NTW_INTERNAL bool has_come_for(const struct scheduled *it)
     return it->blocked != NULL && it->blocked->has_come != NULL && it->blocked->has_come(it->blocked->object);
 }
 
-/* The caller sleeps, until another wakes those at the object, what it waits for has come, or this moment has. Answers whether it was woken. */
-NTW_INTERNAL bool sleep_in(const struct blocked *blocked, uint64_t until)
+/* The caller sleeps, until another wakes those at the object that have one of these bits, what it waits for has come, or this moment has. Answers
+ * whether it was woken. */
+NTW_INTERNAL bool sleep_by_bits(const struct blocked *blocked, uint64_t until, uint32_t bits)
 {
     const int error = errno;
     me->state = IS_SLEEPING;
     me->word = blocked->object;
-    me->bits = FUTEX_BITSET_MATCH_ANY;
+    me->bits = bits;
     me->until = until;
     me->slept = ++schedule.sleeps;
     me->blocked = blocked;
@@ -57,6 +58,11 @@ NTW_INTERNAL bool sleep_in(const struct blocked *blocked, uint64_t until)
     me->blocked = NULL;
     errno = error;
     return me->was_woken;
+}
+
+NTW_INTERNAL bool sleep_in(const struct blocked *blocked, uint64_t until)
+{
+    return sleep_by_bits(blocked, until, FUTEX_BITSET_MATCH_ANY);
 }
 
 NTW_INTERNAL bool has_points(void)

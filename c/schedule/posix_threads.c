@@ -150,21 +150,38 @@ static long call_system(const long number, const long with[6])
     return real.syscall(number, with[0], with[1], with[2], with[3], with[4], with[5]);
 }
 
-static long wait_on_word(const void *place, const long with[6])
+/* What a call asks of a word; -1 of another call, and where the system refuses the time or the bits. */
+static int operation_on_word(long number, const long with[6])
 {
-    const int operation = (int)with[1] & FUTEX_CMD_MASK;
-    const bool is_bitset = operation == FUTEX_WAIT_BITSET;
+    const int operation = number == SYS_futex ? (int)with[1] & FUTEX_CMD_MASK : -1;
+    const bool waits = operation == FUTEX_WAIT || operation == FUTEX_WAIT_BITSET;
+    const bool has_bits = operation == FUTEX_WAIT_BITSET || operation == FUTEX_WAKE_BITSET;
+    /* (Of another call the fourth number may be anything.) */
+    const bool is_refused = (waits && with[3] != 0 && !is_time((const struct timespec *)with[3])) || (has_bits && (uint32_t)with[5] == 0);
+    return is_refused ? -1 : operation;
+}
+
+static bool is_other_than(const long word, uint32_t wanted)
+{
+    return __atomic_load_n((const uint32_t *)word, __ATOMIC_SEQ_CST) != wanted;
+}
+
+static long failed_with(int error)
+{
+    errno = error;
+    return -1;
+}
+
+static long wait_on_word(const void *place, const long with[6], uint32_t bits)
+{
+    const bool is_bitset = ((int)with[1] & FUTEX_CMD_MASK) == FUTEX_WAIT_BITSET;
     const struct timespec *time = (const struct timespec *)with[3];
     const struct blocked blocked = { "futex", (const void *)with[0], place, NULL };
-    if (__atomic_load_n((const uint32_t *)with[0], __ATOMIC_SEQ_CST) != (uint32_t)with[2]) {
-        errno = EAGAIN;
-        return -1;
-    }
+    if (is_other_than(with[0], (uint32_t)with[2]))
+        return failed_with(EAGAIN);
     const clockid_t clock = (with[1] & FUTEX_CLOCK_REALTIME) != 0 ? CLOCK_REALTIME : CLOCK_MONOTONIC;
-    if (sleep_in(&blocked, time == NULL ? NEVER : is_bitset ? moment_by(clock, time) : moment_in(time)))
-        return 0;
-    errno = ETIMEDOUT;
-    return -1;
+    const uint64_t until = time == NULL ? NEVER : is_bitset ? moment_by(clock, time) : moment_in(time);
+    return sleep_by_bits(&blocked, until, bits) ? 0 : failed_with(ETIMEDOUT);
 }
 
 NTW_INTERNAL long hooked_syscall(long number, ...)
@@ -175,13 +192,29 @@ NTW_INTERNAL long hooked_syscall(long number, ...)
     for (int i = 0; i < 6; i++)
         with[i] = va_arg(rest, long);
     va_end(rest);
-    const int operation = number == SYS_futex ? (int)with[1] & FUTEX_CMD_MASK : -1;
-    const bool waits = operation == FUTEX_WAIT || operation == FUTEX_WAIT_BITSET;
-    /* (Of another call the fourth number may be anything.) */
-    const bool has_time = waits && (with[3] == 0 || is_time((const struct timespec *)with[3]));
-    if ((!has_time && operation != FUTEX_WAKE && operation != FUTEX_WAKE_BITSET) || !comes_to((const void *)with[0]))
-        return call_system(number, with);
-    if (waits)
-        return wait_on_word(__builtin_return_address(0), with);
-    return (long)wake_scheduled((const void *)with[0], (int)with[2], FUTEX_BITSET_MATCH_ANY);
+    const int operation = operation_on_word(number, with);
+    const void *word = (const void *)with[0];
+    switch (operation) {
+        case FUTEX_WAIT:
+        case FUTEX_WAIT_BITSET:
+            if (comes_to(word))
+                return wait_on_word(__builtin_return_address(0), with, operation == FUTEX_WAIT ? FUTEX_BITSET_MATCH_ANY : (uint32_t)with[5]);
+            break;
+        case FUTEX_WAKE:
+        case FUTEX_WAKE_BITSET:
+            if (comes_to(word))
+                return wake_scheduled(word, (int)with[2], operation == FUTEX_WAKE ? FUTEX_BITSET_MATCH_ANY : (uint32_t)with[5]);
+            break;
+        case FUTEX_REQUEUE:
+        case FUTEX_CMP_REQUEUE:
+            /* (Who would sleep on the other word from now on is woken, and looks again.) */
+            if (!comes_to(word))
+                break;
+            if (operation == FUTEX_CMP_REQUEUE && is_other_than(with[0], (uint32_t)with[5]))
+                return failed_with(EAGAIN);
+            return wake_scheduled(word, INT_MAX, FUTEX_BITSET_MATCH_ANY);
+        default:
+            break;
+    }
+    return call_system(number, with);
 }

@@ -33,9 +33,9 @@ NTW_INTERNAL time_t hooked_time(time_t *to)
 }
 
 /* Sleeps to this moment; one that is past lets others go first. */
-static void sleep_to_moment(const char *call, uint64_t until)
+static void sleep_to_moment(const char *call, const void *place, uint64_t until)
 {
-    const struct blocked blocked = { call, NULL, __builtin_return_address(0), NULL };
+    const struct blocked blocked = { call, NULL, place, NULL };
     if (until <= schedule.now)
         come_to(AT_YIELD);
     else
@@ -46,7 +46,7 @@ NTW_INTERNAL int hooked_nanosleep(const struct timespec *time, struct timespec *
 {
     if (!is_time(time) || !comes_to(NULL))
         return real.nanosleep(time, left);
-    sleep_to_moment("nanosleep", moment_in(time));
+    sleep_to_moment("nanosleep", __builtin_return_address(0), moment_in(time));
     return 0;
 }
 
@@ -54,7 +54,7 @@ NTW_INTERNAL int hooked_clock_nanosleep(clockid_t clock, int flags, const struct
 {
     if (!is_time(time) || !is_clock_of_run(clock) || !comes_to(NULL))
         return real.clock_nanosleep(clock, flags, time, left);
-    sleep_to_moment("clock_nanosleep", (flags & TIMER_ABSTIME) != 0 ? moment_by(clock, time) : moment_in(time));
+    sleep_to_moment("clock_nanosleep", __builtin_return_address(0), (flags & TIMER_ABSTIME) != 0 ? moment_by(clock, time) : moment_in(time));
     return 0;
 }
 
@@ -62,7 +62,7 @@ NTW_INTERNAL int hooked_usleep(useconds_t microseconds)
 {
     if (!comes_to(NULL))
         return real.usleep(microseconds);
-    sleep_to_moment("usleep", schedule.now + (uint64_t)microseconds * 10);
+    sleep_to_moment("usleep", __builtin_return_address(0), schedule.now + (uint64_t)microseconds * 10);
     return 0;
 }
 
@@ -70,7 +70,7 @@ NTW_INTERNAL unsigned hooked_sleep(unsigned seconds)
 {
     if (!comes_to(NULL))
         return real.sleep(seconds);
-    sleep_to_moment("sleep", schedule.now + (uint64_t)seconds * MOMENTS_PER_SECOND);
+    sleep_to_moment("sleep", __builtin_return_address(0), schedule.now + (uint64_t)seconds * MOMENTS_PER_SECOND);
     return 0;
 }
 

@@ -2,7 +2,9 @@
 #include "case.h"
 #include "../../nt.h"
 
+#include <errno.h>
 #include <fcntl.h>
+#include <linux/futex.h>
 #include <sys/resource.h>
 #include <sys/select.h>
 #include <sys/syscall.h>
@@ -138,7 +140,8 @@ int case_journal_beside_output(int count, char **words)
 /* scheduled_calls. Within 10 s, unsanitized: 1 passed, 0 failed.
  *
  * Beside a scheduler a call of the system may have any fourth number, which is an address in some calls alone, and a wait may be as long as can be.
- * Of two that read from one pipe the other waits on, where one has taken what came. */
+ * Of two that read from one pipe the other waits on, where one has taken what came. Those who sleep on a word are woken by their bits, and by who
+ * moves them to another word. */
 
 static DWORD write_later(LPVOID end)
 {
@@ -152,6 +155,38 @@ static DWORD read_one(LPVOID end)
     char byte;
     must(read(*(const int *)end, &byte, 1) == 1);
     return 0;
+}
+
+static uint32_t word, other_word;
+
+static DWORD sleep_with_bits(LPVOID bits)
+{
+    must(syscall(SYS_futex, &word, FUTEX_WAIT_BITSET_PRIVATE, 0, NULL, NULL, (uint32_t)(uintptr_t)bits) == 0);
+    return 0;
+}
+
+static HANDLE sleeper_with_bits(uintptr_t bits)
+{
+    HANDLE thread = CreateThread(NULL, 0, sleep_with_bits, (LPVOID)bits, 0, NULL);
+    must(thread != NULL);
+    Sleep(1);
+    return thread;
+}
+
+static void wake_on_words(void)
+{
+    HANDLE one = sleeper_with_bits(1), two = sleeper_with_bits(2);
+    IS(syscall(SYS_futex, &word, FUTEX_WAKE_BITSET_PRIVATE, 1, NULL, NULL, 2), 1);
+    IS(WaitForSingleObject(two, 1000), WAIT_OBJECT_0);
+    IS(WaitForSingleObject(one, 0), WAIT_TIMEOUT);
+    IS(syscall(SYS_futex, &word, FUTEX_WAKE_PRIVATE, 1), 1);
+    IS(WaitForSingleObject(one, INFINITE), WAIT_OBJECT_0);
+    HANDLE moved = sleeper_with_bits(1);
+    IS(syscall(SYS_futex, &word, FUTEX_CMP_REQUEUE_PRIVATE, 0, (void *)1, &other_word, 1), -1);
+    IS(errno, EAGAIN);
+    must(syscall(SYS_futex, &word, FUTEX_CMP_REQUEUE_PRIVATE, 0, (void *)1, &other_word, 0) >= 0);
+    syscall(SYS_futex, &other_word, FUTEX_WAKE_PRIVATE, 1);
+    IS(WaitForSingleObject(moved, INFINITE), WAIT_OBJECT_0);
 }
 
 static int call_by_schedule(void)
@@ -173,6 +208,7 @@ static int call_by_schedule(void)
         must(write(ends[1], "y", 1) == 1);
     }
     IS(WaitForMultipleObjects(2, readers, TRUE, INFINITE), WAIT_OBJECT_0);
+    wake_on_words();
     return counted();
 }
 

@@ -10,6 +10,7 @@
 #include <fcntl.h>
 #include <future>
 #include <limits>
+#include <linux/futex.h>
 #include <mutex>
 #include <poll.h>
 #include <pthread.h>
@@ -236,6 +237,37 @@ static void system_calls()
     assert(file >= 0 && syscall(SYS_close, file, 0L, 0L, 1L) == 0);
 }
 
+static long futex(int *word, int operation, long count, int *other, unsigned bits)
+{
+    return syscall(SYS_futex, word, operation | FUTEX_PRIVATE_FLAG, count, operation == FUTEX_CMP_REQUEUE ? 1L : 0L, other, bits);
+}
+
+// Those who sleep on a word are woken by the bits that they wait with, and by who moves them to another word.
+static void words()
+{
+    static int word, other;
+    std::atomic<int> gone{ 0 };
+    const unsigned bits[2] = { 1, 2 };
+    auto sleeps = [&](unsigned mine) {
+        assert(futex(&word, FUTEX_WAIT_BITSET, 0, nullptr, mine) == 0);
+        gone += (int)mine;
+    };
+    std::thread one(sleeps, bits[0]), two(sleeps, bits[1]);
+    usleep(1000);
+    assert(futex(&word, FUTEX_WAKE_BITSET, 1, nullptr, 4) == 0 && futex(&word, FUTEX_WAKE_BITSET, 1, nullptr, 2) == 1);
+    two.join();
+    assert(gone == 2 && futex(&word, FUTEX_WAKE, 1, nullptr, 0) == 1);
+    one.join();
+    assert(futex(&word, FUTEX_WAKE_BITSET, 1, nullptr, 0) == -1 && errno == EINVAL);
+    std::thread moved(sleeps, bits[0]);
+    usleep(1000);
+    assert(futex(&word, FUTEX_CMP_REQUEUE, 0, &other, 1) == -1 && errno == EAGAIN);
+    assert(futex(&word, FUTEX_CMP_REQUEUE, 0, &other, 0) >= 0);
+    futex(&other, FUTEX_WAKE, 1, nullptr, 0);
+    moved.join();
+    assert(gone == 4);
+}
+
 static void clocks()
 {
     timeval day;
@@ -272,7 +304,7 @@ static int answer_of()
 int main()
 {
     void (*const all[])() = { joins, mutexes, readers_and_writers, semaphores, conditions, once, barriers, descriptors, two_readers,
-                                 system_calls, clocks };
+                                 system_calls, words, clocks };
     for (void (*one)() : all)
         one();
     assert(std::async(std::launch::async, answer_of).get() == 42);
