@@ -208,6 +208,17 @@ def taken(folder):
         yield len(bytes_of(f"{folder}/ran")) == 2 * held and (found.passed, bool(found.failed)) == (3, text == "1\n")
 
 
+def laid_out(folder):
+    """A crate that was seen laid out is asked for again only where its files changed; one that was not, each time."""
+    is_laid, is_not = {}, {"fmt": "rt: formatted src/lib.rt\n"}
+    for changes, takes, failed, asked in ((is_not, True, 1, 4), (is_not, True, 1, 1), (is_laid, True, 0, 1), (is_laid, True, 0, 0), (is_laid, False, 0, 4)):
+        write_tree(f"{folder}/tree", **changes)
+        write(os.environ["CALLED"], "")
+        with open(os.devnull, "w", encoding="utf-8") as nowhere:
+            found = steps.each_file_is_laid_out(f"{folder}/tree", takes, Progress(out=nowhere))
+        yield (len(found.failed), bytes_of(os.environ["CALLED"]).count(b"fmt\n")) == (failed, asked)
+
+
 def told(folder):
     """Each step that failed is told as failed, and the gate's status with it; what writes other bytes than stand for it fails."""
     script, why = ["./ntrun", "script", "examples/a.nts"], ["./ntlook", "why", "examples/a.nts"]
@@ -234,7 +245,7 @@ def as_a_whole(folder):
         os.makedirs(os.path.dirname(f"{folder}/copy/{os.path.relpath(it, TOP)}"), exist_ok=True)
         shutil.copy(it, f"{folder}/copy/{os.path.relpath(it, TOP)}")
     write(f"{folder}/copy/proving/scenes.py", "from telling import Step\n\n\ndef run(_):\n    return Step(1)\n")
-    for _, it in steps.FOR_OTHERS + steps.RELEASE:
+    for _, it in steps.FOR_OTHERS:
         write(f"{folder}/copy/{it}", "#!/bin/sh\necho 'no such language here'\nexit 1\n", 0o755)
     for it in CALLED:
         os.symlink(shutil.which(it), f"{folder}/bin/{it}")
@@ -251,7 +262,7 @@ def as_a_whole(folder):
 def run(progress):
     """Runs the scenes, each in a folder of its own, with nothing of this machine's kit and of what is kept."""
     passed, failed = 0, []
-    for scene in (judged, not_proved, kept, merged, taken, told, as_a_whole):
+    for scene in (judged, not_proved, kept, merged, taken, laid_out, told, as_a_whole):
         with tempfile.TemporaryDirectory() as folder, contextlib.ExitStack() as stack:
             write(f"{folder}/bin/rt", RT, 0o755)
             write(f"{folder}/called.number", "9\n")

@@ -15,7 +15,7 @@ import rows
 from command import noted, run
 from crates import crates_of, text_of
 from edits import edits_in
-from kept import Kept
+from kept import Kept, sum_of, sum_of_files, sum_of_kit
 from lanes import processors, run_all
 from proofs import Proofs, handles_of
 from repeats import repeated
@@ -24,8 +24,8 @@ from telling import COUNTED, Step
 from trial import Trial
 from verdicts import sum_of_mutant
 
-# The crate whose check tells the rate of a machine.
-RATED = "nt_core"
+# The crates whose checks together tell the rate of a machine.
+RATED = ("nt_machine", "nt_core")
 # How the names of crates end that only measure: `./gate all` alone proves them.
 BENCH = "_bench"
 
@@ -60,16 +60,23 @@ def no_conflict_markers(top, progress):
     return Step(1) if said.status == 1 and not lines else Step(0, [it.split(":")[0] for it in lines] or [f"git grep: status {said.status}"])
 
 
-def laid_out_otherwise(crate, room):
+def laid_out_otherwise(crate, room, kept):
     """The files of the crate that `rt fmt` lays out otherwise. (It names each that it lays out, so this works on a copy.)"""
+    total = sum_of("laid out", crate.name, sum_of_kit(), sum_of_files(crate.folder))
+    if kept.has_passed(total):
+        return []
     said = run([kit.find_rt(), "fmt"], fill_room(f"{room}/{crate.name}", crate, below=False))
     names = re.findall(r"^rt: formatted (.*)$", said.text, re.M) or ([f"rt fmt: status {said.status}"] if said.status else [])
+    if not names:
+        kept.note_passed(total)
     return [f"crates/{crate.name}/{it}" for it in names]
 
 
-def each_file_is_laid_out(top, progress):
+def each_file_is_laid_out(top, takes, progress):
+    """Crates whose files an earlier run saw laid out as they stand are taken so, where `takes`."""
+    kept = Kept(progress.tell, takes)
     with tempfile.TemporaryDirectory() as room, ThreadPoolExecutor(processors()) as pool:
-        failed = sum(pool.map(lambda it: laid_out_otherwise(it, room), crates_of(top).values()), [])
+        failed = sum(pool.map(lambda it: laid_out_otherwise(it, room, kept), crates_of(top).values()), [])
     for it in failed:
         progress.tell(f"{it}: `rt fmt` lays it out otherwise")
     return Step(0 if failed else 1, failed)
@@ -127,10 +134,10 @@ def tell_costs(proofs, trials, as_refused, progress):
 
 
 def tell_rate(proofs, work, progress):
-    """Tells the rate of the machine, if this run proved the crate that tells it."""
-    if RATED in proofs.parts and RATED in proofs.passed:
-        seconds = Trial(proofs.crates[RATED], [], work, progress).check({}).seconds
-        progress.tell(f"{RATED}, with nothing to do and nothing beside it: checked, {seconds:.0f} s")
+    """Tells the rate of the machine, if this run proved the crates that tell it."""
+    if all(it in proofs.parts and it in proofs.passed for it in RATED):
+        seconds = sum(Trial(proofs.crates[it], [], work, progress).check({}).seconds for it in RATED)
+        progress.tell(f"{' and '.join(RATED)}, with nothing to do and nothing beside them: checked, {seconds:.0f} s")
 
 
 # What builds without proofs: the two programs as one, and the dispatcher for C programs. They have nothing in common, and are built side by side.
@@ -207,14 +214,14 @@ FOR_OTHERS = (
     ("the crates for Rust", "rust/test"),
     ("the emulator of Windows programs", "examples/emulator/test"),
     ("the drawings, as viewers show them", "tests/pictures"),
+    ("a release, where no kit is", "release/test"),
 )
-RELEASE = (("a release, where no kit is", "release/test"),)
 
 
-def for_others(top, tell, tests=FOR_OTHERS):
-    """The tests of other languages, over the library for C as it was built last, and of viewers. One whose tools are lacking is told, and left out."""
+def for_others(top, tell):
+    """These tests, over the library for C as it was built last. One whose tools are lacking is told, and left out."""
     found = []
-    for name, test in tests:
+    for name, test in FOR_OTHERS:
         said = run([f"{top}/{test}", "--lacks"], top)
         if said.status:
             tell(f"gate: {name}: not tried: {said.text.strip()}")
@@ -223,10 +230,11 @@ def for_others(top, tell, tests=FOR_OTHERS):
     return found
 
 
-def before_proofs(top):
+def before_proofs(top, takes):
+    """What needs no proof and no build. What earlier runs kept of it is taken where `takes`."""
     return [
         ("no conflict markers", functools.partial(no_conflict_markers, top), False),
-        ("each file is laid out", functools.partial(each_file_is_laid_out, top), False),
+        ("each file is laid out", functools.partial(each_file_is_laid_out, top, takes), False),
         ("docs/MODEL.md has each file of definitions", command(top, "docs/check_model"), False),
         ("the names of the docs", command(top, "docs/check_names"), False),
         ("each mutant applies", functools.partial(edits_apply, top), False),
@@ -234,13 +242,41 @@ def before_proofs(top):
     ]
 
 
-def unproved(top, builds):
+class Beside:
+    """A step that runs beside others: it is begun early, and its turn is to wait for it."""
+
+    def __init__(self, call, pool):
+        self.call, self.pool, self.lines, self.ended = call, pool, [], None
+
+    def begin(self):
+        self.ended = self.pool.submit(self.call, self)
+
+    def tell(self, text):
+        self.lines.append(text)
+
+    def turn(self, progress):
+        found = self.ended.result()
+        for it in self.lines:
+            progress.tell(it)
+        return found
+
+
+def unproved(top, builds, pool):
+    """What a change breaks first, over builds without proofs: each program takes many times as long there. The tests of C, which wait more than they
+    work, run beside the others."""
+    in_c = Beside(command(top, "make", "--no-print-directory", "-C", "c", "quick"), pool)
+
+    def built(progress):
+        found = unproved_build(builds, progress)
+        in_c.begin()
+        return found
+
     return [
-        ("the unproved build", functools.partial(unproved_build, builds), True),
+        ("the unproved build", built, True),
         ("the examples", functools.partial(examples, top), False),
-        ("the launcher, and the worked scripts", command(top, "tests/launcher"), False),
-        ("random scripts and lives, a second way", command(top, "tests/compare"), False),
-        ("the library for C programs, unproved", command(top, "make", "--no-print-directory", "-C", "c", "quick"), False),
+        ("the launcher, and the worked scripts", command(top, "tests/launcher", "--few"), False),
+        ("random scripts and lives, a second way", command(top, "tests/compare", "--few"), False),
+        ("the library for C programs, unproved", in_c.turn, False),
     ]
 
 

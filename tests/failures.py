@@ -13,11 +13,16 @@ import threading
 TOP = os.path.dirname(os.path.dirname(os.path.realpath(__file__)))
 
 
-def words_of(doc, *, names="a part of the names of those that are to be run; all are, if none is given"):
-    """The names on the command line of a program of tests whose page is `doc`. Where help is asked for, it is given, and the program ends."""
+def parser_of(doc, *, names="a part of the names of those that are to be run; all are, if none is given"):
+    """What reads the command line of a program of tests whose page is `doc`: the names of tests."""
     parser = argparse.ArgumentParser(description=doc, formatter_class=argparse.RawDescriptionHelpFormatter)
     parser.add_argument("names", nargs="*", metavar="NAME", help=names)
-    return parser.parse_args().names
+    return parser
+
+
+def words_of(doc, **texts):
+    """The names on such a command line. Where help is asked for, it is given, and the program ends."""
+    return parser_of(doc, **texts).parse_args().names
 
 
 def beside(path):
