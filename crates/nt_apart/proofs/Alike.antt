@@ -1,6 +1,6 @@
 -- Two states that have in common what a call touches, and that parts which touch nothing of it lead to such a state.
 use Rattle.std.proofs.Common.{◌≡◌, ◌≢◌, ◌⊎◌, inl, inr, ℕ, zero, suc, Bool, true, false, cond, not, ◌||◌, List, [], ◌∷◌, ◌++◌, length, refl, sym, ap, ◌∙◌, subst, Option, Some, None, Contains}
-use Rattle.std.specs.Prelude.{if◌then◌else◌}
+use Rattle.std.specs.Prelude.{slice_index_or, if◌then◌else◌}
 use Rattle.std.specs.List.{find}
 use Rattle.std.specs.Cmp.{nat_cmp_total}
 use Rattle.std.specs.Ordering.{nat_cmp}
@@ -19,7 +19,7 @@ use Rattle.nt_apart.proofs.Waits.{none_equal}
 use Rattle.nt_apart.proofs.Pieces.{long_each, find_others, find_flat}
 use Rattle.nt_apart.proofs.Reach.{AlikeInBoth}
 use Rattle.nt_apart.proofs.Apcs.{asked_apc}
-use Rattle.nt_apart.proofs.Parts.{Part, Changes, Gets, Leaves, Joins, Posts, Withdraws, done, all_done, OnObject, OnThread, Moves, SomeOnObject, SomeOnThread, SomeMoves}
+use Rattle.nt_apart.proofs.Parts.{Part, Changes, Gets, Hands, Leaves, Joins, Posts, Withdraws, Drops, none_from, done, all_done, OnObject, OnThread, Moves, SomeOnObject, SomeOnThread, SomeMoves}
 
 -- the same objects, the same waits and APCs of threads, and the same waits that a call may end
 pub record Alike (O T : ℕ → Type 0) (W : Wait → Type 0) (x y : State) : Type 0 where
@@ -29,6 +29,7 @@ pub record Alike (O T : ℕ → Type 0) (W : Wait → Type 0) (x y : State) : Ty
   pub objects : (o : ℕ) → O o → object_at y.objects o ≡ object_at x.objects o
   pub waits : (v : ℕ) → T v → fin.get y.waits v ≡ fin.get x.waits v
   pub apcs : (v : ℕ) → T v → apc_queue_of y.apcs v ≡ apc_queue_of x.apcs v
+  pub hands : (v : ℕ) → T v → slice_index_or y.handing v false ≡ slice_index_or x.handing v false
   pub there : (v : ℕ) (w : Wait) → W w → fin.get x.waits v ≡ Some w → fin.get y.waits v ≡ Some w
   pub back : (v : ℕ) (w : Wait) → W w → fin.get y.waits v ≡ Some w → fin.get x.waits v ≡ Some w
   pub queues : (ns : List ℕ) → AlikeInBoth (sequence x ns) (sequence y ns) x y
@@ -41,6 +42,7 @@ alike_back O T W x y alike = record {
   objects = λ o m. sym (alike.objects o m);
   waits = λ v m. sym (alike.waits v m);
   apcs = λ v m. sym (alike.apcs v m);
+  hands = λ v m. sym (alike.hands v m);
   there = alike.back;
   back = alike.there;
   queues = λ ns p ix iy. sym (alike.queues ns p iy ix);
@@ -54,6 +56,7 @@ alike_itself O T W x = record {
   objects = λ o m. refl;
   waits = λ v m. refl;
   apcs = λ v m. refl;
+  hands = λ v m. refl;
   there = λ v w n e. e;
   back = λ v w n e. e;
   queues = λ ns p ix iy. refl;
@@ -85,6 +88,7 @@ long_withdrawn (l ∷ qs) h = ap (λ (n : ℕ). suc n) (long_withdrawn qs h)
 posts_done : (p : Part) (x : State) → length (done p x).apcs ≡ length x.apcs
 posts_done (Posts t r a) x = length-set x.apcs t (apc_queue_of x.apcs t ++ asked_apc r a ∷ [])
 posts_done (Withdraws h) x = long_withdrawn x.apcs h
+posts_done (Drops t l) x = length-set x.apcs t l
 posts_done _ x = refl
 
 posts_along : (ps : List Part) (x : State) → length (all_done ps x).apcs ≡ length x.apcs
@@ -118,22 +122,24 @@ queue_withdrawn [] h v = refl
 queue_withdrawn (l ∷ qs) h zero = refl
 queue_withdrawn (l ∷ qs) h (suc v) = queue_withdrawn qs h v
 
-none_from : (h : ℕ) (l : List Queued) → (has_from h l ≡ true → ⊥) → without_from h l ≡ l
-none_from h [] none = refl
-none_from h (q ∷ l) none = go (is_from h q.timer) refl (none_from h l)
-  where
-    go : (b : Bool) → is_from h q.timer ≡ b → ((has_from h l ≡ true → ⊥) → without_from h l ≡ l) → (if not b then q ∷ without_from h l else without_from h l) ≡ q ∷ l
-    go true is rest = absurd (none (ap (λ (b : Bool). b || has_from h l) is))
-    go false is rest = ap (λ (z : List Queued). q ∷ z) (rest (λ e. none (ap (λ (b : Bool). b || has_from h l) is ∙ e)))
-
 apcs_done : (s : State) (p : Part) (x : State) (v : ℕ) → apc_queue_of x.apcs v ≡ apc_queue_of s.apcs v → (OnThread s p v → ⊥) → apc_queue_of (done p x).apcs v ≡ apc_queue_of s.apcs v
 apcs_done s (Posts t r a) x v same none = get_or-set_other x.apcs t v (apc_queue_of x.apcs t ++ asked_apc r a ∷ []) [] (λ e. none (sym e)) ∙ same
 apcs_done s (Withdraws h) x v same none = queue_withdrawn x.apcs h v ∙ (ap (λ (l : List Queued). without_from h l) same ∙ none_from h (apc_queue_of s.apcs v) none)
+apcs_done s (Drops t l) x v same none = get_or-set_other x.apcs t v l [] (λ e. none (sym e)) ∙ same
 apcs_done s _ x v same none = same
 
 apcs_along : (s : State) (ps : List Part) (x : State) (v : ℕ) → apc_queue_of x.apcs v ≡ apc_queue_of s.apcs v → (SomeOnThread s ps v → ⊥) → apc_queue_of (all_done ps x).apcs v ≡ apc_queue_of s.apcs v
 apcs_along s [] x v same none = same
 apcs_along s (p ∷ ps) x v same none = apcs_along s ps (done p x) v (apcs_done s p x v same (λ m. none (inl m))) (λ m. none (inr m))
+
+-- whether a thread may take its APCs
+hands_done : (s : State) (p : Part) (x : State) (v : ℕ) → (OnThread s p v → ⊥) → slice_index_or (done p x).handing v false ≡ slice_index_or x.handing v false
+hands_done s (Hands t may) x v none = get_or-set_other x.handing t v may false (λ e. none (sym e))
+hands_done s _ x v none = refl
+
+hands_along : (s : State) (ps : List Part) (x : State) (v : ℕ) → (SomeOnThread s ps v → ⊥) → slice_index_or (all_done ps x).handing v false ≡ slice_index_or x.handing v false
+hands_along s [] x v none = refl
+hands_along s (p ∷ ps) x v none = hands_along s ps (done p x) v (λ m. none (inr m)) ∙ hands_done s p x v (λ m. none (inl m))
 
 -- a wait that pends after them pended before, or each of its objects is touched
 born_of : (p : Part) (x : State) (t : ℕ) (w : Wait) → fin.get (done p x).waits t ≡ Some w → (fin.get x.waits t ≡ Some w) ⊎ ((o : ℕ) → Contains w.objects o → OnObject p o)
@@ -186,6 +192,7 @@ alike_after O T W s ps os ts named pending idle = record {
   objects = λ o m. object_along ps s o (os o m);
   waits = λ v m. wait_along s ps s v (ts v m);
   apcs = λ v m. apcs_along s ps s v refl (ts v m);
+  hands = λ v m. hands_along s ps s v (ts v m);
   there = λ v w n e. wait_along s ps s v (ts v (pending v w n e)) ∙ e;
   back = λ v w n e. elim (born ps s v w e) [ inl it ↦ it | inr touched ↦ absurd (let it = named w n in os it.0 it.1 (touched it.0 it.2)) ];
   queues = λ ns p ix iy. find_flat p (all_done ps s).queues s.queues ns (λ n. queue_along ps s p (λ v m. elim (idle v m) [ inl i ↦ ix v i | inr i ↦ iy v i ]) n);

@@ -18,7 +18,7 @@ use Rattle.nt_calls.specs.Naming.{object_in, object_named}
 use Rattle.nt_calls.specs.Steps.{Called}
 use Rattle.nt_apart.specs.Apart.{IsQuiet, CallsGoOtherwise}
 use Rattle.nt_apart.specs.Closing.{AreTwoCloses}
-use Rattle.nt_apart.proofs.Parts.{all_done, SomeOnObject, SomeOnThread, closes_closes, lists_commute}
+use Rattle.nt_apart.proofs.Parts.{AllKeep, all_done, SomeOnObject, SomeOnThread, closes_closes, lists_commute}
 use Rattle.nt_apart.proofs.Closed.{IsFree, closing, ending, close_called, make_called, quiet_closed, handles_closed, forgotten_after, is_free, unrefused, free_before, free_after}
 
 -- ---- both, in either order
@@ -42,6 +42,10 @@ on_none s true h o v (inr (inr (inl e))) = false≢true e
 on_none s true h o v (inr (inr (inr none))) = none
 on_none s false h o v (inl none) = none
 on_none s false h o v (inr none) = none
+
+closing_keeps : (s : State) (b : Bool) (h o : ℕ) → AllKeep s (closing b h o)
+closing_keeps s true h o = (tt, (tt, (tt, tt)))
+closing_keeps s false h o = (tt, tt)
 
 two_apart : (s mid new : State) (t u h k : ℕ) (ra rb : Reply) (ga gb : List Grant) → AreTwoCloses s mid new t u h k ra rb ga gb → h ≢ k → object_named s.handles h ≢ object_named s.handles k → CallsGoOtherwise s new t u (Act.Close h) (Act.Close k) ra rb ga gb
 two_apart s mid new t u h k ra rb ga gb two handles objects =
@@ -70,7 +74,7 @@ two_apart s mid new t u h k ra rb ga gb two handles objects =
     let made_a : Called n t (Call.Act (Act.Close h)) (Ok ra) ga (all_done (closing one.ends h (object_named n.handles h)) n) = make_called n t h one.ends ra ga quiet_n living_n (unrefused n t h free_n) is_a one.grants one.reply in
     let last : all_done (closing one.ends h (object_named n.handles h)) n ≡ new =
     ap (λ (i : ℕ). all_done (closing one.ends h i) n) named_n
-    ∙ (lists_commute (without_apcs s) (closing next.ends k p) (closing one.ends h o) s (λ i m m'. objects (on_that one.ends h o i m' ∙ sym (on_that next.ends k p i m))) (λ v m m'. on_none s next.ends k p v m)
+    ∙ (lists_commute (without_apcs s) (closing next.ends k p) (closing one.ends h o) s (λ i m m'. objects (on_that one.ends h o i m' ∙ sym (on_that next.ends k p i m))) (λ v m m'. on_none s next.ends k p v m) (closing_keeps (without_apcs s) next.ends k p) (closing_keeps (without_apcs s) one.ends h o)
     ∙ (ap (λ (i : ℕ). all_done (closing next.ends k i) x) (sym named_x) ∙ sym next.state)) in
     record {
       mid = n;

@@ -13,21 +13,22 @@ use Rattle.nt_apart.specs.Apart.{IsQuiet}
 use Rattle.nt_apart.specs.Reach.{signals_one, signaled_one}
 use Rattle.nt_apart.specs.Apcs.{queues_one}
 use Rattle.nt_apart.specs.Timers.{times_one}
-use Rattle.nt_apart.specs.Footprint.{closes_one, has_footprint, TouchesObject, TouchesThread, AreStepsApart, GoOtherwise}
+use Rattle.nt_apart.specs.Footprint.{closes_one, takes_apc, has_footprint, TouchesObject, TouchesThread, AreStepsApart, GoOtherwise}
 use Rattle.nt_apart.proofs.Waits.{found_is}
 use Rattle.nt_apart.proofs.Parts.{Part, all_done, SomeOnObject, SomeOnThread, lists_commute}
 use Rattle.nt_apart.proofs.Alike.{AreIdle, alike_itself, alike_back, alike_after}
-use Rattle.nt_apart.proofs.PartsOfCalls.{MayEnd, AlikeFor, IsFrom, IsMade, signal_made, apc_made, timer_made, close_made}
+use Rattle.nt_apart.proofs.PartsOfCalls.{MayEnd, AlikeFor, IsFrom, IsMade, signal_made, apc_made, timer_made, close_made, next_made}
 use Rattle.nt_apart.proofs.PartsOfWaits.{wait_made}
 
 act_made : (s x y new : State) (t : ℕ) (a : Act) (r : Reply) (gs : List Grant) → has_footprint s.now (Call.Act a) ≡ true → IsFrom s t (Call.Act a) x → IsQuiet y → AlikeFor s t (Call.Act a) x y → Step x t (Call.Act a) r gs new → IsMade s x y new t (Call.Act a) r gs
-act_made s x y new t a r gs kind from quiet alike step = go (signals_one a) refl (queues_one a) refl (times_one s.now a) refl kind
+act_made s x y new t a r gs kind from quiet alike step = go (signals_one a) refl (queues_one a) refl (times_one s.now a) refl (closes_one a) refl kind
   where
-    go : (i : Bool) → signals_one a ≡ i → (j : Bool) → queues_one a ≡ j → (k : Bool) → times_one s.now a ≡ k → (i || (j || (k || closes_one a))) ≡ true → IsMade s x y new t (Call.Act a) r gs
-    go true i j j' k k' e = signal_made s x y new t a r gs i from quiet alike step
-    go false i true j k k' e = apc_made s x y new t a r gs j from quiet alike step
-    go false i false j true k e = timer_made s x y new t a r gs k from quiet alike step
-    go false i false j false k e = close_made s x y new t a r gs e from.quiet quiet step
+    go : (i : Bool) → signals_one a ≡ i → (j : Bool) → queues_one a ≡ j → (k : Bool) → times_one s.now a ≡ k → (n : Bool) → closes_one a ≡ n → (i || (j || (k || (n || takes_apc a)))) ≡ true → IsMade s x y new t (Call.Act a) r gs
+    go true i j j' k k' n n' e = signal_made s x y new t a r gs i from quiet alike step
+    go false i true j k k' n n' e = apc_made s x y new t a r gs j from quiet alike step
+    go false i false j true k n n' e = timer_made s x y new t a r gs k from quiet alike step
+    go false i false j false k true n e = close_made s x y new t a r gs n from.quiet quiet step
+    go false i false j false k false n e = next_made s x y new t a r gs e from quiet alike step
 
 call_made : (s x y new : State) (t : ℕ) (c : Call) (r : Reply) (gs : List Grant) → has_footprint s.now c ≡ true → IsFrom s t c x → IsQuiet y → (TouchesThread s t c t → pends y t ≡ false) → AlikeFor s t c x y → Step x t c r gs new → IsMade s x y new t c r gs
 call_made s x y new t (Call.Act a) r gs kind from quiet idle alike step = act_made s x y new t a r gs kind from quiet alike step
@@ -51,10 +52,10 @@ after : (s : State) (t : ℕ) (c : Call) (ps : List Part) → ((o : ℕ) → Tou
 after s t c ps os ts idle = alike_after (TouchesObject s c) (TouchesThread s t c) (MayEnd c) s ps os ts (λ w may. ends_for s c w may) (λ v w may e. ends_of s t c v w may e) idle
 
 from_itself : (s : State) (t : ℕ) (c : Call) → IsQuiet s → IsFrom s t c s
-from_itself s t c quiet = record { quiet = quiet; now = refl; known = λ v w may e. e }
+from_itself s t c quiet = record { quiet = quiet; now = refl; known = λ v w may e. e; apcs = λ v m. refl }
 
 from_alike : (s : State) (t : ℕ) (c : Call) (x : State) → IsQuiet x → AlikeFor s t c s x → IsFrom s t c x
-from_alike s t c x quiet alike = record { quiet = quiet; now = alike.now; known = alike.back }
+from_alike s t c x quiet alike = record { quiet = quiet; now = alike.now; known = alike.back; apcs = alike.apcs }
 
 -- ---- both, in either order
 
@@ -72,7 +73,7 @@ steps_apart s mid new t u a b ra rb ga gb two =
     let alike_a : AlikeFor s t a s n = after s t a qs (λ o p n. two.apart.objects o p (next.objects o n)) (λ v p n. two.apart.threads v p (next.threads v n)) next.idle in
     let again = call_made s s n mid t a ra ga two.first_kind (from_itself s t a two.quiet) next.quiet (λ m. ap is_some (alike_a.waits t m) ∙ two.first_idle) alike_a two.first in
     let last : all_done again.parts n ≡ new =
-    lists_commute s qs again.parts s (λ o m n. two.apart.objects o (again.objects o n) (next.objects o m)) (λ v m n. two.apart.threads v (again.threads v n) (next.threads v m))
+    lists_commute s qs again.parts s (λ o m n. two.apart.objects o (again.objects o n) (next.objects o m)) (λ v m n. two.apart.threads v (again.threads v n) (next.threads v m)) next.keeps again.keeps
     ∙ (ap (λ (z : State). all_done qs z) (sym again.state ∙ one.state) ∙ sym next.state) in
     record {
       mid = n;

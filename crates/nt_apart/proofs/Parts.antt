@@ -1,5 +1,5 @@
 -- The parts of a step: each changes one list of the state. Parts that touch no object and no thread in common commute.
-use Rattle.std.proofs.Common.{◌≡◌, ◌≢◌, ◌⊎◌, inl, inr, ℕ, zero, suc, Bool, true, false, cond, not, List, [], ◌∷◌, ◌++◌, refl, sym, ap, ◌∙◌, subst, Option, Some, None, Contains}
+use Rattle.std.proofs.Common.{◌≡◌, ◌≢◌, ◌⊎◌, inl, inr, ℕ, zero, suc, Bool, true, false, cond, not, ◌||◌, List, [], ◌∷◌, ◌++◌, refl, sym, ap, ◌∙◌, subst, Option, Some, None, Contains}
 use Rattle.std.proofs.Math.Path.{fun_ext}
 use Rattle.std.specs.Prelude.{slice_set, ◌==◌, if◌then◌else◌}
 use Rattle.std.specs.List.{list_any, filter}
@@ -7,7 +7,7 @@ use Rattle.std.specs.Cmp.{nat_cmp_total, unsigned_tied}
 use Rattle.std.specs.Ordering.{nat_cmp, eq_by_cmp}
 use Rattle.std.specs.FinMap as map
 use Rattle.std.proofs.lemmas.Bool.{cases_eq, eqb-true}
-use Rattle.std.proofs.lemmas.List.{set_comm}
+use Rattle.std.proofs.lemmas.List.{set_comm, get_or-set_other}
 use Rattle.nt_machine.proofs.Listing.{same_no}
 use Rattle.nt_objects.specs.declared.object.Object.{Object}
 use Rattle.nt_tables.specs.declared.handles.Opened.{Opened}
@@ -37,6 +37,8 @@ pub data Part : Type 0 where
   -- an APC is queued to a thread, or those of a timer are withdrawn
   Posts : (t : ℕ) → (routine : ℕ) → (arg : ℕ) → Part
   Withdraws : (h : ℕ) → Part
+  -- a thread's queue becomes this rest of it
+  Drops : (t : ℕ) → (l : List Queued) → Part
   -- a handle is closed
   Closes : (h : ℕ) → Part
 
@@ -48,6 +50,7 @@ done (Leaves t) s = pending_no_more s t
 done (Joins t w) s = pending_too s t w
 done (Posts t routine arg) s = apc_queued s t routine arg
 done (Withdraws h) s = record s { apcs = withdrawn s.apcs h }
+done (Drops t l) s = record s { apcs = slice_set s.apcs t l }
 done (Closes h) s = handle_closed s h
 
 abbrev pub all_done : List Part → State → State
@@ -69,6 +72,7 @@ OnThread s (Leaves t) v = t ≡ v
 OnThread s (Joins t w) v = t ≡ v
 OnThread s (Posts t routine arg) v = t ≡ v
 OnThread s (Withdraws h) v = has_from h (apc_queue_of s.apcs v) ≡ true
+OnThread s (Drops t l) v = t ≡ v
 OnThread s _ v = ⊥
 
 -- whether the thread's wait pends changes
@@ -88,6 +92,15 @@ SomeOnThread s (p ∷ ps) v = OnThread s p v ⊎ SomeOnThread s ps v
 abbrev pub SomeMoves : List Part → ℕ → Type 0
 SomeMoves [] v = ⊥
 SomeMoves (p ∷ ps) v = Moves p v ⊎ SomeMoves ps v
+
+-- what is left of a queue has no APC of a timer that the queue had none of in s
+abbrev pub KeepsTimers : State → Part → Type 0
+KeepsTimers s (Drops t l) = (h : ℕ) → has_from h l ≡ true → has_from h (apc_queue_of s.apcs t) ≡ true
+KeepsTimers s _ = Unit {0}
+
+abbrev pub AllKeep : State → List Part → Type 0
+AllKeep s [] = Unit {0}
+AllKeep s (p ∷ ps) = KeepsTimers s p × AllKeep s ps
 
 -- ---- two parts in either order
 
@@ -172,30 +185,60 @@ closes_closes hs h k = elim (cases_eq h k) [
   | inr differs ↦ set_comm hs h k None None differs
 ]
 
-pub parts_commute : (r : State) (p q : Part) (s : State) → ((o : ℕ) → OnObject p o → OnObject q o → ⊥) → ((v : ℕ) → OnThread r p v → OnThread r q v → ⊥) → done q (done p s) ≡ done p (done q s)
-parts_commute r (Changes h f) (Changes k g) s os ts = sym (changes_commute s h k f g (λ e. os k e refl))
-parts_commute r (Changes h f) (Gets u ks) s os ts = changes_takes s h u f ks (λ m. os h refl m)
-parts_commute r (Gets t hs) (Changes k g) s os ts = sym (changes_takes s k t g hs (λ m. os k m refl))
-parts_commute r (Gets t hs) (Gets u ks) s os ts = ap (λ (x : List Object). record s { objects = x }) (each_comm s.objects t u hs ks (λ x y m n e. os y (subst (λ (i : ℕ). Contains hs i) e m) n))
-parts_commute r (Hands t a) (Hands u b) s os ts = ap (λ (x : List Bool). record s { handing = x }) (set_comm s.handing t u a b (λ e. ts u e refl))
-parts_commute r (Leaves t) (Leaves u) s os ts = leaves_leaves s t u
-parts_commute r (Leaves t) (Joins u w) s os ts = leaves_joins s t u w (λ e. ts u e refl)
-parts_commute r (Joins t v) (Leaves u) s os ts = sym (leaves_joins s u t v (λ e. ts u (sym e) refl))
-parts_commute r (Joins t v) (Joins u w) s os ts = joins_joins s t u v w (λ e. ts u e refl) os
-parts_commute r (Posts t x y) (Posts u x' y') s os ts = posts_posts s t u x y x' y' (λ e. ts u e refl)
-parts_commute r (Posts t x y) (Withdraws h) s os ts = posts_withdraws s t h x y
-parts_commute r (Withdraws h) (Posts t x y) s os ts = sym (posts_withdraws s t h x y)
-parts_commute r (Withdraws h) (Withdraws k) s os ts = ap (λ (qs : List (List Queued)). record s { apcs = qs }) (withdrawn_comm s.apcs k h)
-parts_commute r (Closes h) (Closes k) s os ts = ap (λ (hs : List (Option Opened)). record s { handles = hs }) (closes_closes s.handles h k)
-parts_commute r _ _ s os ts = refl
+pub none_from : (h : ℕ) (l : List Queued) → (has_from h l ≡ true → ⊥) → without_from h l ≡ l
+none_from h [] none = refl
+none_from h (q ∷ l) none = go (is_from h q.timer) refl (none_from h l)
+  where
+    go : (b : Bool) → is_from h q.timer ≡ b → ((has_from h l ≡ true → ⊥) → without_from h l ≡ l) → (if not b then q ∷ without_from h l else without_from h l) ≡ q ∷ l
+    go true is rest = absurd (none (ap (λ (b : Bool). b || has_from h l) is))
+    go false is rest = ap (λ (z : List Queued). q ∷ z) (rest (λ e. none (ap (λ (b : Bool). b || has_from h l) is ∙ e)))
 
-pub past : (r : State) (p : Part) (qs : List Part) (s : State) → ((o : ℕ) → OnObject p o → SomeOnObject qs o → ⊥) → ((v : ℕ) → OnThread r p v → SomeOnThread r qs v → ⊥) → all_done qs (done p s) ≡ done p (all_done qs s)
-past r p [] s os ts = refl
-past r p (q ∷ qs) s os ts = ap (λ (x : State). all_done qs x) (parts_commute r p q s (λ o m n. os o m (inl n)) (λ v m n. ts v m (inl n))) ∙ past r p qs (done q s) (λ o m n. os o m (inr n)) (λ v m n. ts v m (inr n))
+drops_posts : (s : State) (t u x y : ℕ) (l : List Queued) → t ≢ u → done (Posts u x y) (done (Drops t l) s) ≡ done (Drops t l) (done (Posts u x y) s)
+drops_posts s t u x y l differ =
+    ap (λ (z : List Queued). record s { apcs = slice_set (slice_set s.apcs t l) u (z ++ asked_apc x y ∷ []) }) (get_or-set_other s.apcs t u l [] (λ e. differ (sym e)))
+    ∙ ap (λ (qs : List (List Queued)). record s { apcs = qs }) (set_comm s.apcs t u l (apc_queue_of s.apcs u ++ asked_apc x y ∷ []) differ)
 
-pub lists_commute : (r : State) (ps qs : List Part) (s : State) → ((o : ℕ) → SomeOnObject ps o → SomeOnObject qs o → ⊥) → ((v : ℕ) → SomeOnThread r ps v → SomeOnThread r qs v → ⊥) → all_done qs (all_done ps s) ≡ all_done ps (all_done qs s)
-lists_commute r [] qs s os ts = refl
-lists_commute r (p ∷ ps) qs s os ts = lists_commute r ps qs (done p s) (λ o m n. os o (inr m) n) (λ v m n. ts v (inr m) n) ∙ ap (λ (x : State). all_done ps x) (past r p qs s (λ o m n. os o (inl m) n) (λ v m n. ts v (inl m) n))
+withdrawn_set : (qs : List (List Queued)) (t h : ℕ) (l : List Queued) → without_from h l ≡ l → withdrawn (slice_set qs t l) h ≡ slice_set (withdrawn qs h) t l
+withdrawn_set [] t h l none = refl
+withdrawn_set (x ∷ qs) zero h l none = ap (λ (z : List Queued). z ∷ withdrawn qs h) none
+withdrawn_set (x ∷ qs) (suc t) h l none = ap (λ (zs : List (List Queued)). without_from h x ∷ zs) (withdrawn_set qs t h l none)
+
+drops_withdraws : (s : State) (t h : ℕ) (l : List Queued) → (has_from h l ≡ true → ⊥) → done (Withdraws h) (done (Drops t l) s) ≡ done (Drops t l) (done (Withdraws h) s)
+drops_withdraws s t h l none = ap (λ (qs : List (List Queued)). record s { apcs = qs }) (withdrawn_set s.apcs t h l (none_from h l none))
+
+pub parts_commute : (r : State) (p q : Part) (s : State) → ((o : ℕ) → OnObject p o → OnObject q o → ⊥) → ((v : ℕ) → OnThread r p v → OnThread r q v → ⊥) → KeepsTimers r p → KeepsTimers r q → done q (done p s) ≡ done p (done q s)
+parts_commute r (Changes h f) (Changes k g) s os ts kp kq = sym (changes_commute s h k f g (λ e. os k e refl))
+parts_commute r (Changes h f) (Gets u ks) s os ts kp kq = changes_takes s h u f ks (λ m. os h refl m)
+parts_commute r (Gets t hs) (Changes k g) s os ts kp kq = sym (changes_takes s k t g hs (λ m. os k m refl))
+parts_commute r (Gets t hs) (Gets u ks) s os ts kp kq = ap (λ (x : List Object). record s { objects = x }) (each_comm s.objects t u hs ks (λ x y m n e. os y (subst (λ (i : ℕ). Contains hs i) e m) n))
+parts_commute r (Hands t a) (Hands u b) s os ts kp kq = ap (λ (x : List Bool). record s { handing = x }) (set_comm s.handing t u a b (λ e. ts u e refl))
+parts_commute r (Leaves t) (Leaves u) s os ts kp kq = leaves_leaves s t u
+parts_commute r (Leaves t) (Joins u w) s os ts kp kq = leaves_joins s t u w (λ e. ts u e refl)
+parts_commute r (Joins t v) (Leaves u) s os ts kp kq = sym (leaves_joins s u t v (λ e. ts u (sym e) refl))
+parts_commute r (Joins t v) (Joins u w) s os ts kp kq = joins_joins s t u v w (λ e. ts u e refl) os
+parts_commute r (Posts t x y) (Posts u x' y') s os ts kp kq = posts_posts s t u x y x' y' (λ e. ts u e refl)
+parts_commute r (Posts t x y) (Withdraws h) s os ts kp kq = posts_withdraws s t h x y
+parts_commute r (Withdraws h) (Posts t x y) s os ts kp kq = sym (posts_withdraws s t h x y)
+parts_commute r (Withdraws h) (Withdraws k) s os ts kp kq = ap (λ (qs : List (List Queued)). record s { apcs = qs }) (withdrawn_comm s.apcs k h)
+parts_commute r (Drops t l) (Drops u m) s os ts kp kq = ap (λ (qs : List (List Queued)). record s { apcs = qs }) (set_comm s.apcs t u l m (λ e. ts u e refl))
+parts_commute r (Drops t l) (Posts u x y) s os ts kp kq = drops_posts s t u x y l (λ e. ts u e refl)
+parts_commute r (Posts t x y) (Drops u l) s os ts kp kq = sym (drops_posts s u t x y l (λ e. ts u (sym e) refl))
+parts_commute r (Drops t l) (Withdraws h) s os ts kp kq = drops_withdraws s t h l (λ e. ts t refl (kp h e))
+parts_commute r (Withdraws h) (Drops t l) s os ts kp kq = sym (drops_withdraws s t h l (λ e. ts t (kq h e) refl))
+parts_commute r (Closes h) (Closes k) s os ts kp kq = ap (λ (hs : List (Option Opened)). record s { handles = hs }) (closes_closes s.handles h k)
+parts_commute r _ _ s os ts kp kq = refl
+
+pub past : (r : State) (p : Part) (qs : List Part) (s : State) → ((o : ℕ) → OnObject p o → SomeOnObject qs o → ⊥) → ((v : ℕ) → OnThread r p v → SomeOnThread r qs v → ⊥) → KeepsTimers r p → AllKeep r qs → all_done qs (done p s) ≡ done p (all_done qs s)
+past r p [] s os ts kp kq = refl
+past r p (q ∷ qs) s os ts kp kq =
+    ap (λ (x : State). all_done qs x) (parts_commute r p q s (λ o m n. os o m (inl n)) (λ v m n. ts v m (inl n)) kp kq.0)
+    ∙ past r p qs (done q s) (λ o m n. os o m (inr n)) (λ v m n. ts v m (inr n)) kp kq.1
+
+pub lists_commute : (r : State) (ps qs : List Part) (s : State) → ((o : ℕ) → SomeOnObject ps o → SomeOnObject qs o → ⊥) → ((v : ℕ) → SomeOnThread r ps v → SomeOnThread r qs v → ⊥) → AllKeep r ps → AllKeep r qs → all_done qs (all_done ps s) ≡ all_done ps (all_done qs s)
+lists_commute r [] qs s os ts kp kq = refl
+lists_commute r (p ∷ ps) qs s os ts kp kq =
+    lists_commute r ps qs (done p s) (λ o m n. os o (inr m) n) (λ v m n. ts v (inr m) n) kp.1 kq
+    ∙ ap (λ (x : State). all_done ps x) (past r p qs s (λ o m n. os o (inl m) n) (λ v m n. ts v (inl m) n) kp.0 kq)
 
 -- ---- a piece in parts
 
@@ -203,6 +246,11 @@ abbrev pub in_parts : List Piece → List Part
 in_parts [] = []
 in_parts (Alters h f ∷ ps) = Changes h f ∷ in_parts ps
 in_parts (Ends t hs ∷ ps) = Gets t hs ∷ Hands t false ∷ Leaves t ∷ in_parts ps
+
+pub pieces_keep : (s : State) (ps : List Piece) → AllKeep s (in_parts ps)
+pieces_keep s [] = tt
+pieces_keep s (Alters h f ∷ ps) = (tt, pieces_keep s ps)
+pieces_keep s (Ends t hs ∷ ps) = (tt, (tt, (tt, pieces_keep s ps)))
 
 pub in_parts_is : (ps : List Piece) (s : State) → all_made ps s ≡ all_done (in_parts ps) s
 in_parts_is [] s = refl

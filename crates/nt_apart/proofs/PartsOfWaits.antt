@@ -17,7 +17,7 @@ use Rattle.nt_apart.specs.Apart.{only_waits, IsQuiet}
 use Rattle.nt_apart.proofs.Waits.{How, Takes, Rouses, TimesOut, Pends, how as how_by, how_of, came, answer, effect, begun_is, takes_if, takes_is, picked, picked_named, picked_agree, fits_agree, status_agree}
 use Rattle.nt_apart.proofs.Waiting.{wait_step, make_wait, quiet_begun}
 use Rattle.nt_apart.proofs.Reach.{is_named}
-use Rattle.nt_apart.proofs.Parts.{Part, Gets, Hands, Joins, all_done, SomeOnObject, SomeOnThread, SomeMoves}
+use Rattle.nt_apart.proofs.Parts.{Part, Gets, Hands, Joins, AllKeep, all_done, SomeOnObject, SomeOnThread, SomeMoves}
 use Rattle.nt_apart.proofs.PartsOfCalls.{IsFrom, AlikeFor, IsMade}
 
 -- how the wait begins, in parts
@@ -70,6 +70,12 @@ moves_caller TimesOut hs t w v (inr none) = absurd none
 moves_caller Pends hs t w v (inl e) = e
 moves_caller Pends hs t w v (inr none) = absurd none
 
+waits_keep : (s : State) (h : How) (hs : List ℕ) (t : ℕ) (w : Wait) → AllKeep s (parts_by h hs t w)
+waits_keep s Takes hs t w = (tt, (tt, tt))
+waits_keep s Rouses hs t w = (tt, tt)
+waits_keep s TimesOut hs t w = (tt, tt)
+waits_keep s Pends hs t w = (tt, tt)
+
 pub wait_made : (s x y new : State) (t : ℕ) (wait : WaitCall) (r : Reply) (gs : List Grant) → only_waits wait ≡ true → IsFrom s t (Call.Wait wait) x → IsQuiet y → pends y t ≡ false → AlikeFor s t (Call.Wait wait) x y → Step x t (Call.Wait wait) r gs new → IsMade s x y new t (Call.Wait wait) r gs
 wait_made s x y new t wait r gs only from quiet idle alike step =
     let w : Wait = asked_wait s.now wait in
@@ -109,4 +115,5 @@ wait_made s x y new t wait r gs only from quiet idle alike step =
       objects = λ o m. is_named o w.objects (parts_name how x.objects t w takes o m);
       threads = λ v m. parts_of_thread s how hs t w v m;
       idle = λ v m. inl (subst (λ (i : ℕ). pends y i ≡ false) (moves_caller how hs t w v m) idle);
+      keeps = waits_keep s how hs t w;
     }

@@ -137,7 +137,7 @@ had_apc [] h v e = e
 had_apc (l ∷ qs) h zero e = had_some (λ q. not (is_from h q.timer)) l e
 had_apc (l ∷ qs) h (suc v) e = had_apc qs h v e
 
-both_true : (a b c : Bool) → (b ≡ true → c ≡ true) → (a && b) ≡ true → (a && c) ≡ true
+pub both_true : (a b c : Bool) → (b ≡ true → c ≡ true) → (a && b) ≡ true → (a && c) ≡ true
 both_true true b c on e = on e
 both_true false b c on e = e
 

@@ -21,9 +21,14 @@ abbrev pub closes_one : Act → Bool
 closes_one (Act.Close h) = true
 closes_one _ = false
 
--- the calls whose footprint is defined: waits, and acts that signal an object, queue an APC, set a timer for later, cancel one, or close a handle
+-- the act takes an APC of the thread that makes it
+abbrev pub takes_apc : Act → Bool
+takes_apc Act.NextApc = true
+takes_apc _ = false
+
+-- the calls whose footprint is defined: waits, and acts that signal an object, queue or take an APC, set a timer for later, cancel one, or close a handle
 abbrev pub has_footprint : ℕ → Call → Bool
-has_footprint now (Call.Act a) = signals_one a || (queues_one a || (times_one now a || closes_one a))
+has_footprint now (Call.Act a) = signals_one a || (queues_one a || (times_one now a || (closes_one a || takes_apc a)))
 has_footprint now (Call.Wait wait) = only_waits wait
 has_footprint now Call.Exit = false
 
@@ -41,11 +46,13 @@ TouchesObject s (Call.Act a) o = ((signals_one a ≡ true) × IsInReach s (signa
 TouchesObject s (Call.Wait wait) o = wait_names (asked_wait s.now wait) o ≡ true
 TouchesObject s Call.Exit o = ⊥
 
--- a signal touches each thread that waits for its object, an APC its thread, a timer's act each thread that has an APC of it, and a wait its thread
+-- a signal touches each thread that waits for its object, an APC its thread, a timer's act each thread that has an APC of it; a wait touches its thread,
+-- and so does an act that takes an APC
 abbrev pub TouchesThread : State → ℕ → Call → ℕ → Type 0
 TouchesThread s t (Call.Act a) u =
     ((signals_one a ≡ true) × WaitsFor s u (signaled_one a))
-    ⊎ (((queues_one a ≡ true) × (u ≡ queued_to a)) ⊎ ((times_one s.now a ≡ true) × (has_apc_from s u (timed_one a) ≡ true)))
+    ⊎ (((queues_one a ≡ true) × (u ≡ queued_to a))
+    ⊎ (((times_one s.now a ≡ true) × (has_apc_from s u (timed_one a) ≡ true)) ⊎ ((takes_apc a ≡ true) × (u ≡ t))))
 TouchesThread s t (Call.Wait wait) u = u ≡ t
 TouchesThread s t Call.Exit u = ⊥
 

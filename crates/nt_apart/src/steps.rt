@@ -79,7 +79,7 @@ pub fn timers_commute_with_signals()
 {}
 
 /// Two calls that touch nothing in common may be made in either order: waits that begin, whatever comes of each, and acts that signal an object,
-/// queue an APC, set a timer for later, cancel one, or close a handle.
+/// queue or take an APC, set a timer for later, cancel one, or close a handle.
 pub fn steps_apart_commute()
     ensures { StepsApartCommute }
 {}
