@@ -3,7 +3,6 @@ pub mod Whole
 pub mod Waking
 pub mod Fewer
 pub mod Waits
-pub mod Beside
 pub mod Waiting
 pub mod Pieces
 pub mod Reach
@@ -16,6 +15,7 @@ pub mod Parts
 pub mod Alike
 pub mod PartsOfCalls
 pub mod PartsOfWaits
+pub mod Swaps
 pub mod Footprint
 pub mod Closed
 pub mod Closing

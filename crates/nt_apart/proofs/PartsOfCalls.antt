@@ -23,7 +23,7 @@ use Rattle.nt_apart.specs.Apart.{IsQuiet}
 use Rattle.nt_apart.specs.Reach.{signals_one, signaled_one, IsInReach}
 use Rattle.nt_apart.specs.Apcs.{queues_one}
 use Rattle.nt_apart.specs.Timers.{times_one, timed_one}
-use Rattle.nt_apart.specs.Footprint.{closes_one, takes_apc, WaitsFor, TouchesObject, TouchesThread}
+use Rattle.nt_apart.specs.Footprint.{closes_one, takes_apc, SignalsFirst, WaitsFor, TouchesObject, TouchesThread}
 use Rattle.nt_apart.proofs.Waiting.{none_changed}
 use Rattle.nt_apart.proofs.Pieces.{Piece, Alters, Ends, made, all_made, idle_along, alerted_before}
 use Rattle.nt_apart.proofs.Reach.{AreOf, is_named, change_agree, IsBeside, only_one}
@@ -37,7 +37,8 @@ use Rattle.nt_apart.proofs.Alike.{Alike, AreIdle}
 -- the waits that the call may end as it serves objects
 abbrev pub MayEnd : Call → Wait → Type 0
 MayEnd (Call.Act a) w = (signals_one a ≡ true) × (wait_names w (signaled_one a) ≡ true)
-MayEnd _ w = ⊥
+MayEnd (Call.Wait wait) w = (h : ℕ) × SignalsFirst wait h × (wait_names w h ≡ true)
+MayEnd Call.Exit w = ⊥
 
 -- the states have in common what the call touches in s
 abbrev pub AlikeFor : State → ℕ → Call → State → State → Type 0
@@ -68,7 +69,7 @@ are_known s x h [] known are = tt
 are_known s x h (Alters k f ∷ ps) known are = (are.0, are_known s x h ps known are.1)
 are_known s x h (Ends t hs ∷ ps) known are = ((are.0.0, known t are.0.0 are.0.2 are.0.1, are.0.2, are.0.3), are_known s x h ps known are.1)
 
-on_reached : (s : State) (h : ℕ) (ps : List Piece) (o : ℕ) → AreOf s h ps → SomeOnObject (in_parts ps) o → IsInReach s h o
+pub on_reached : (s : State) (h : ℕ) (ps : List Piece) (o : ℕ) → AreOf s h ps → SomeOnObject (in_parts ps) o → IsInReach s h o
 on_reached s h [] o are here = absurd here
 on_reached s h (Alters k f ∷ ps) o are (inl e) = inl (sym e ∙ are.0)
 on_reached s h (Alters k f ∷ ps) o are (inr later) = on_reached s h ps o are.1 later
@@ -80,7 +81,7 @@ on_reached s h (Ends t hs ∷ ps) o are (inr (inr (inr later))) = on_reached s h
 waits_so : (s : State) (h t v : ℕ) → WaitsFor s t h → t ≡ v → WaitsFor s v h
 waits_so s h t v waits e = subst (λ (i : ℕ). WaitsFor s i h) e waits
 
-on_waiting : (s : State) (h : ℕ) (ps : List Piece) (v : ℕ) → AreOf s h ps → SomeOnThread s (in_parts ps) v → WaitsFor s v h
+pub on_waiting : (s : State) (h : ℕ) (ps : List Piece) (v : ℕ) → AreOf s h ps → SomeOnThread s (in_parts ps) v → WaitsFor s v h
 on_waiting s h [] v are here = absurd here
 on_waiting s h (Alters k f ∷ ps) v are (inl none) = absurd none
 on_waiting s h (Alters k f ∷ ps) v are (inr later) = on_waiting s h ps v are.1 later
@@ -89,7 +90,7 @@ on_waiting s h (Ends t hs ∷ ps) v are (inr (inl e)) = waits_so s h t v (are.0.
 on_waiting s h (Ends t hs ∷ ps) v are (inr (inr (inl e))) = waits_so s h t v (are.0.0, are.0.1, are.0.2) e
 on_waiting s h (Ends t hs ∷ ps) v are (inr (inr (inr later))) = on_waiting s h ps v are.1 later
 
-left_idle : (ps : List Piece) (x : State) (v : ℕ) → SomeMoves (in_parts ps) v → pends (all_made ps x) v ≡ false
+pub left_idle : (ps : List Piece) (x : State) (v : ℕ) → SomeMoves (in_parts ps) v → pends (all_made ps x) v ≡ false
 left_idle [] x v here = absurd here
 left_idle (Alters k f ∷ ps) x v (inl none) = absurd none
 left_idle (Alters k f ∷ ps) x v (inr later) = left_idle ps (at x k f) v later
@@ -112,23 +113,42 @@ beside_alike s x y t a kind from quiet alike =
       only_too = only_one y h f quiet.served;
     }
 
-pub signal_made : (s x y new : State) (t : ℕ) (a : Act) (r : Reply) (gs : List Grant) → signals_one a ≡ true → IsFrom s t (Call.Act a) x → IsQuiet y → AlikeFor s t (Call.Act a) x y → Step x t (Call.Act a) r gs new → IsMade s x y new t (Call.Act a) r gs
-signal_made s x y new t a r gs kind from quiet alike step =
+-- the step in x is these pieces, and the same in y
+pub record IsPieced (s x y new : State) (t : ℕ) (a : Act) (r : Reply) (gs : List Grant) : Type 0 where
+  pub pieces : List Piece
+  pub are : AreOf s (signaled_one a) pieces
+  pub state : new ≡ all_made pieces x
+  pub step : Step y t (Call.Act a) r gs (all_made pieces y)
+  pub quiet : IsQuiet (all_made pieces y)
+
+pub signal_pieces : (s x y new : State) (t : ℕ) (a : Act) (r : Reply) (gs : List Grant) → signals_one a ≡ true → IsFrom s t (Call.Act a) x → IsQuiet y → AlikeFor s t (Call.Act a) x y → Step x t (Call.Act a) r gs new → IsPieced s x y new t a r gs
+signal_pieces s x y new t a r gs kind from quiet alike step =
     let h = signaled_one a in
     let one = signal_step x new t a r gs kind from.quiet.calm step in
     let own : List Piece = pieces_in x new t a r gs one in
     let ps : List Piece = whole a own in
     let go = moved x x new y t a r gs one kind (λ v w e. e) alike.queues (beside_alike s x y t a kind from quiet alike) alike.long (alike.objects h (inl (kind, inl refl))) quiet.calm in
-    let are : AreOf s h ps = are_known s x h ps (λ v w n e. from.known v w (kind, n) e) (whole_of x a own go.0) in
-    let quiet_last : IsQuiet (all_made ps y) = record { served = go.2; calm = λ v alerted. quiet.calm v (alerted_before ps y v alerted) } in
+    record {
+      pieces = ps;
+      are = are_known s x h ps (λ v w n e. from.known v w (kind, n) e) (whole_of x a own go.0);
+      state = whole_is x new t a r gs one;
+      step = make_signal y (all_made ps y) t a r gs kind go.1;
+      quiet = record { served = go.2; calm = λ v alerted. quiet.calm v (alerted_before ps y v alerted) };
+    }
+
+pub signal_made : (s x y new : State) (t : ℕ) (a : Act) (r : Reply) (gs : List Grant) → signals_one a ≡ true → IsFrom s t (Call.Act a) x → IsQuiet y → AlikeFor s t (Call.Act a) x y → Step x t (Call.Act a) r gs new → IsMade s x y new t (Call.Act a) r gs
+signal_made s x y new t a r gs kind from quiet alike step =
+    let h = signaled_one a in
+    let one = signal_pieces s x y new t a r gs kind from quiet alike step in
+    let ps : List Piece = one.pieces in
     let same : all_made ps y ≡ all_done (in_parts ps) y = in_parts_is ps y in
     record {
       parts = in_parts ps;
-      state = whole_is x new t a r gs one ∙ in_parts_is ps x;
-      step = subst (λ (z : State). Step y t (Call.Act a) r gs z) same (make_signal y (all_made ps y) t a r gs kind go.1);
-      quiet = subst IsQuiet same quiet_last;
-      objects = λ o m. inl (kind, on_reached s h ps o are m);
-      threads = λ v m. inl (kind, on_waiting s h ps v are m);
+      state = one.state ∙ in_parts_is ps x;
+      step = subst (λ (z : State). Step y t (Call.Act a) r gs z) same one.step;
+      quiet = subst IsQuiet same one.quiet;
+      objects = λ o m. inl (kind, on_reached s h ps o one.are m);
+      threads = λ v m. inl (kind, on_waiting s h ps v one.are m);
       idle = λ v m. inr (ap (λ (z : State). pends z v) (sym same) ∙ left_idle ps y v m);
       keeps = pieces_keep s ps;
     }

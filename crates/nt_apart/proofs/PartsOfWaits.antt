@@ -80,7 +80,7 @@ pub wait_made : (s x y new : State) (t : ℕ) (wait : WaitCall) (r : Reply) (gs 
 wait_made s x y new t wait r gs only from quiet idle alike step =
     let w : Wait = asked_wait s.now wait in
     let ms = timeout_of wait in
-    let agree : (o : ℕ) → Contains w.objects o → object_at y.objects o ≡ object_at x.objects o = λ o m. alike.objects o (is_named o w.objects m) in
+    let agree : (o : ℕ) → Contains w.objects o → object_at y.objects o ≡ object_at x.objects o = λ o m. alike.objects o (inl (is_named o w.objects m)) in
     let how : How = how_of x t w ms in
     let how_y : How = how_of y t w ms in
     let takes : how ≡ Takes → fits x.objects t w ≡ true = takes_if x t w ms in
@@ -92,7 +92,7 @@ wait_made s x y new t wait r gs only from quiet idle alike step =
     ∙ (begun_is x t w ms ∙ ap {B = Reply × State} (λ (z : State). (answer how x.objects t w, z)) (effect_is how x t w)) in
     let same_how : how_y ≡ how =
     ap (λ (b : Bool). how_by b (w.alertable && has_apc y.apcs t) (ms == 0)) (fits_agree y.objects x.objects t w agree)
-    ∙ ap (λ (l : List Queued). how_by (fits x.objects t w) (w.alertable && list_any (λ _. true) l) (ms == 0)) (alike.apcs t refl) in
+    ∙ ap (λ (l : List Queued). how_by (fits x.objects t w) (w.alertable && list_any (λ _. true) l) (ms == 0)) (alike.apcs t (inl refl)) in
     let begun_y : ◌≡◌ {A = Reply × State} (begun y t (asked_wait y.now wait) ms) (answer how x.objects t w, all_done ps y) =
     ap {B = Reply × State} (λ (i : ℕ). begun y t (asked_wait i wait) ms) (alike.now ∙ from.now)
     ∙ (begun_is y t w ms
@@ -112,8 +112,8 @@ wait_made s x y new t wait r gs only from quiet idle alike step =
           (subst (λ (a : Reply). Step y t (Call.Wait wait) a gs b.1) told
           (subst (λ (l : List Grant). Step y t (Call.Wait wait) b.0 l b.1) (sym one.grants) (make_wait y t wait only quiet)));
       quiet = subst IsQuiet leads quiet_b;
-      objects = λ o m. is_named o w.objects (parts_name how x.objects t w takes o m);
-      threads = λ v m. parts_of_thread s how hs t w v m;
+      objects = λ o m. inl (is_named o w.objects (parts_name how x.objects t w takes o m));
+      threads = λ v m. inl (parts_of_thread s how hs t w v m);
       idle = λ v m. inl (subst (λ (i : ℕ). pends y i ≡ false) (moves_caller how hs t w v m) idle);
       keeps = waits_keep s how hs t w;
     }

@@ -120,7 +120,7 @@ set_agree (p ∷ ps) (x ∷ os) (suc h) (suc o) v long here = set_agree ps os h 
 pub change_agree : (ps os : List Object) (h o : ℕ) (f : Object → Object) → length ps ≡ length os → object_at ps h ≡ object_at os h → object_at ps o ≡ object_at os o → object_at (with_object ps h f) o ≡ object_at (with_object os h f) o
 change_agree ps os h o f long first here = ap (λ v. object_at (slice_set ps h (f v)) o) first ∙ set_agree ps os h o (f (object_at os h)) long here
 
-each_agree : (ps os : List Object) (t : ℕ) (hs : List ℕ) (o : ℕ) → length ps ≡ length os → ((x : ℕ) → Contains hs x → object_at ps x ≡ object_at os x) → object_at ps o ≡ object_at os o → object_at (take_each ps t hs) o ≡ object_at (take_each os t hs) o
+pub each_agree : (ps os : List Object) (t : ℕ) (hs : List ℕ) (o : ℕ) → length ps ≡ length os → ((x : ℕ) → Contains hs x → object_at ps x ≡ object_at os x) → object_at ps o ≡ object_at os o → object_at (take_each ps t hs) o ≡ object_at (take_each os t hs) o
 each_agree ps os t [] o long agree here = here
 each_agree ps os t (h ∷ hs) o long agree here =
     let first = agree h (contains_first h hs h refl) in

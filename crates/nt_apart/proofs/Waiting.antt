@@ -19,14 +19,29 @@ use Rattle.nt_calls.specs.declared.call.Reply.{Reply}
 use Rattle.nt_calls.specs.declared.call.Grant.{Grant}
 use Rattle.nt_calls.specs.Rising.{AreRising}
 use Rattle.nt_calls.specs.State.{State, object_at, with_object, wait_names, pending_too}
-use Rattle.nt_calls.specs.Serving.{is_ready, least, take_at, take_each, fits, satisfied, objects_taken, IsServed, IsAlerted, Serve, Alert, IsChanged, sequence}
+use Rattle.nt_calls.specs.Serving.{is_ready, least, status, taken_by, take_at, take_each, fits, satisfied, objects_taken, IsServed, IsAlerted, Serve, Alert, IsChanged, sequence}
 use Rattle.nt_calls.specs.Change.{at, change, act_reply}
 use Rattle.nt_calls.specs.Steps.{Step, begun, asked_wait, timeout_of}
 use Rattle.nt_apart.specs.Apart.{changed_one, only_waits, IsUnawaited, IsQuiet, AreChangeAndWait, WaitGoesFirst}
-use Rattle.nt_apart.proofs.Quiet.{change_of_one, served_other, serve_none, alert_none, none_to_alert, change_is, step_is, make_step, changed_along, rising_along}
-use Rattle.nt_apart.proofs.Waking.{taken_leaves, reply_at}
+use Rattle.nt_apart.proofs.Quiet.{fits_other, change_of_one, served_other, serve_none, alert_none, none_to_alert, change_is, step_is, make_step, changed_along, rising_along}
+use Rattle.nt_apart.proofs.Waking.{taken_leaves, same_taking, reply_at}
 use Rattle.nt_apart.proofs.Waits.{begins}
-use Rattle.nt_apart.proofs.Beside.{beside}
+
+-- ---- a wait that begins, and the change of an object that it does not name
+
+pub beside : (s : State) (t h : ℕ) (w : Wait) (ms : ℕ) (f : Object → Object) → wait_names w h ≡ false → ◌≡◌ {A = Reply × State} (begun (at s h f) t w ms) ((begun s t w ms).0, at (begun s t w ms).1 h f)
+beside s t h w ms f free =
+    ap {B = Reply × State} (λ (a : Bool). begins a (w.alertable && has_apc s.apcs t) (ms == 0) (at s h f) t w) (fits_other s.objects h (f (object_at s.objects h)) t w free)
+    ∙ go (fits s.objects t w) (w.alertable && has_apc s.apcs t) (ms == 0) (λ e. e)
+  where
+    go : (a b c : Bool) → (a ≡ true → fits s.objects t w ≡ true) → ◌≡◌ {A = Reply × State} (begins a b c (at s h f) t w) ((begins a b c s t w).0, at (begins a b c s t w).1 h f)
+    go true b c fit =
+        let same = same_taking s.objects h f t w free (fit refl) in
+        ap {B = Reply × State} (λ (n : ℕ). (Reply.Status n, taken_by (at s h f) t w)) same.status
+        ∙ ap {B = Reply × State} (λ (os : List Object). (Reply.Status (status s.objects t w), record (taken_by s t w) { objects = os })) same.objects
+    go false true c fit = refl
+    go false false true fit = refl
+    go false false false fit = refl
 
 -- ---- the step of a call that only waits
 

@@ -78,8 +78,8 @@ pub fn timers_commute_with_signals()
     ensures { TimersCommuteWithSignals }
 {}
 
-/// Two calls that touch nothing in common may be made in either order: waits that begin, whatever comes of each, and acts that signal an object,
-/// queue or take an APC, set a timer for later, cancel one, or close a handle.
+/// Two calls that touch nothing in common may be made in either order: waits that begin, whether or not they signal an object
+/// before, and acts that signal an object, queue or take an APC, set a timer for later, cancel one, or close a handle.
 pub fn steps_apart_commute()
     ensures { StepsApartCommute }
 {}

@@ -1,7 +1,7 @@
 use Rattle.std.proofs.Common.{ap}
 use Rattle.nt_calls.specs.declared.call.Reply.{Reply}
 use Rattle.nt_calls.specs.State.{State}
-use Rattle.nt_apart.proofs.Beside.{beside}
+use Rattle.nt_apart.proofs.Waiting.{beside}
 use Rattle.nt_apart.proofs.steps.waits_begin_beside_changes.Goals as goal
 
 pub returns : goal.returns
