@@ -18,7 +18,6 @@ use Rattle.nt_apart.proofs.Waking.{each_leaves}
 use Rattle.nt_apart.proofs.Waits.{none_equal}
 use Rattle.nt_apart.proofs.Pieces.{long_each, find_others, find_flat}
 use Rattle.nt_apart.proofs.Reach.{AlikeInBoth}
-use Rattle.nt_apart.proofs.Apcs.{asked_apc}
 use Rattle.nt_apart.proofs.Parts.{Part, Changes, Gets, Hands, Leaves, Joins, Posts, Withdraws, Drops, none_from, done, all_done, OnObject, OnThread, Moves, SomeOnObject, SomeOnThread, SomeMoves}
 
 -- the same objects, the same waits and APCs of threads, and the same waits that a call may end
@@ -86,7 +85,7 @@ long_withdrawn [] h = refl
 long_withdrawn (l ∷ qs) h = ap (λ (n : ℕ). suc n) (long_withdrawn qs h)
 
 posts_done : (p : Part) (x : State) → length (done p x).apcs ≡ length x.apcs
-posts_done (Posts t r a) x = length-set x.apcs t (apc_queue_of x.apcs t ++ asked_apc r a ∷ [])
+posts_done (Posts t q) x = length-set x.apcs t (apc_queue_of x.apcs t ++ q ∷ [])
 posts_done (Withdraws h) x = long_withdrawn x.apcs h
 posts_done (Drops t l) x = length-set x.apcs t l
 posts_done _ x = refl
@@ -123,7 +122,7 @@ queue_withdrawn (l ∷ qs) h zero = refl
 queue_withdrawn (l ∷ qs) h (suc v) = queue_withdrawn qs h v
 
 apcs_done : (s : State) (p : Part) (x : State) (v : ℕ) → apc_queue_of x.apcs v ≡ apc_queue_of s.apcs v → (OnThread s p v → ⊥) → apc_queue_of (done p x).apcs v ≡ apc_queue_of s.apcs v
-apcs_done s (Posts t r a) x v same none = get_or-set_other x.apcs t v (apc_queue_of x.apcs t ++ asked_apc r a ∷ []) [] (λ e. none (sym e)) ∙ same
+apcs_done s (Posts t q) x v same none = get_or-set_other x.apcs t v (apc_queue_of x.apcs t ++ q ∷ []) [] (λ e. none (sym e)) ∙ same
 apcs_done s (Withdraws h) x v same none = queue_withdrawn x.apcs h v ∙ (ap (λ (l : List Queued). without_from h l) same ∙ none_from h (apc_queue_of s.apcs v) none)
 apcs_done s (Drops t l) x v same none = get_or-set_other x.apcs t v l [] (λ e. none (sym e)) ∙ same
 apcs_done s _ x v same none = same

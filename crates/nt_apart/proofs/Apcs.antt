@@ -99,7 +99,7 @@ overs_comm s (t ∷ ts) us may = overs_comm (wait_over s t may) ts us may ∙ ap
 
 -- ---- who is alerted by an APC
 
-has_other : (qs : List (List Queued)) (k v : ℕ) (q : Queued) → v ≢ k → has_apc (pushed qs k q) v ≡ has_apc qs v
+pub has_other : (qs : List (List Queued)) (k v : ℕ) (q : Queued) → v ≢ k → has_apc (pushed qs k q) v ≡ has_apc qs v
 has_other qs k v q differs = ap (λ (l : List Queued). list_any (λ _. true) l) (get_or-set_other qs k v (apc_queue_of qs k ++ q ∷ []) [] differs)
 
 -- the thread to which it is queued, or nobody

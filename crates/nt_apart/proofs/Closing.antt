@@ -26,7 +26,7 @@ use Rattle.nt_apart.proofs.Closed.{IsFree, closing, ending, close_called, make_c
 on_that : (b : Bool) (h o x : ℕ) → SomeOnObject (closing b h o) x → o ≡ x
 on_that true h o x (inl none) = absurd none
 on_that true h o x (inr (inl e)) = e
-on_that true h o x (inr (inr (inl none))) = absurd none
+on_that true h o x (inr (inr (inl e))) = e
 on_that true h o x (inr (inr (inr none))) = absurd none
 on_that false h o x (inl none) = absurd none
 on_that false h o x (inr none) = absurd none

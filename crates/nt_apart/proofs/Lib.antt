@@ -16,6 +16,7 @@ pub mod Alike
 pub mod PartsOfCalls
 pub mod PartsOfWaits
 pub mod Swaps
+pub mod Firing
 pub mod Footprint
 pub mod Closed
 pub mod Closing

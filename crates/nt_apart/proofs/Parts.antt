@@ -17,12 +17,12 @@ use Rattle.nt_apc.specs.declared.apc.Queued.{Queued}
 use Rattle.nt_apc.specs.Queues.{apc_queue_of, pushed, is_from, has_from, without_from, withdrawn}
 use Rattle.nt_calls.specs.State.{State, Pending, wait_names, with_handing, pending_too, pending_no_more}
 use Rattle.nt_calls.specs.Serving.{take_each}
-use Rattle.nt_calls.specs.Change.{at, apc_queued, handle_closed}
+use Rattle.nt_calls.specs.Change.{at, handle_closed}
 use Rattle.nt_apart.proofs.Quiet.{changes_commute}
 use Rattle.nt_apart.proofs.Waking.{take_all}
 use Rattle.nt_apart.proofs.Waits.{none_equal, each_comm, inserts_comm, queue_comm}
 use Rattle.nt_apart.proofs.Pieces.{Piece, Alters, Ends, made, all_made, remove_comm, others_comm}
-use Rattle.nt_apart.proofs.Apcs.{asked_apc, pushed_comm}
+use Rattle.nt_apart.proofs.Apcs.{pushed_comm}
 use Rattle.nt_apart.proofs.Timers.{withdrawn_comm}
 
 pub data Part : Type 0 where
@@ -35,7 +35,7 @@ pub data Part : Type 0 where
   Leaves : (t : ℕ) → Part
   Joins : (t : ℕ) → (w : Wait) → Part
   -- an APC is queued to a thread, or those of a timer are withdrawn
-  Posts : (t : ℕ) → (routine : ℕ) → (arg : ℕ) → Part
+  Posts : (t : ℕ) → (q : Queued) → Part
   Withdraws : (h : ℕ) → Part
   -- a thread's queue becomes this rest of it
   Drops : (t : ℕ) → (l : List Queued) → Part
@@ -48,7 +48,7 @@ done (Gets t hs) s = record s { objects = take_each s.objects t hs }
 done (Hands t may) s = with_handing s t may
 done (Leaves t) s = pending_no_more s t
 done (Joins t w) s = pending_too s t w
-done (Posts t routine arg) s = apc_queued s t routine arg
+done (Posts t q) s = record s { apcs = pushed s.apcs t q }
 done (Withdraws h) s = record s { apcs = withdrawn s.apcs h }
 done (Drops t l) s = record s { apcs = slice_set s.apcs t l }
 done (Closes h) s = handle_closed s h
@@ -63,6 +63,8 @@ abbrev pub OnObject : Part → ℕ → Type 0
 OnObject (Changes h f) o = h ≡ o
 OnObject (Gets t hs) o = Contains hs o
 OnObject (Joins t w) o = Contains w.objects o
+OnObject (Posts t q) o = q.timer ≡ Some o
+OnObject (Withdraws h) o = h ≡ o
 OnObject _ o = ⊥
 
 -- (what a timer's APCs are is read of state s)
@@ -70,7 +72,7 @@ abbrev pub OnThread : State → Part → ℕ → Type 0
 OnThread s (Hands t may) v = t ≡ v
 OnThread s (Leaves t) v = t ≡ v
 OnThread s (Joins t w) v = t ≡ v
-OnThread s (Posts t routine arg) v = t ≡ v
+OnThread s (Posts t q) v = t ≡ v
 OnThread s (Withdraws h) v = has_from h (apc_queue_of s.apcs v) ≡ true
 OnThread s (Drops t l) v = t ≡ v
 OnThread s _ v = ⊥
@@ -160,8 +162,8 @@ joins_joins s t u v w differ none =
     ap (λ (m : Pending). record s { waits = m; queues = λ h. if wait_names w h then (if wait_names v h then s.queues h ++ t ∷ [] else s.queues h) ++ u ∷ [] else (if wait_names v h then s.queues h ++ t ∷ [] else s.queues h) }) (inserts_comm s.waits t u v w differ)
     ∙ ap (λ (q : ℕ → List ℕ). record s { waits = map.insert (map.insert s.waits u w) t v; queues = q }) (fun_ext (λ h. queue_comm (s.queues h) t u v w h (λ o m. names_none o w.objects (none o m))))
 
-posts_posts : (s : State) (t u x y x' y' : ℕ) → t ≢ u → done (Posts u x' y') (done (Posts t x y) s) ≡ done (Posts t x y) (done (Posts u x' y') s)
-posts_posts s t u x y x' y' differ = ap (λ (qs : List (List Queued)). record s { apcs = qs }) (pushed_comm s.apcs t u (asked_apc x y) (asked_apc x' y') differ)
+posts_posts : (s : State) (t u : ℕ) (p q : Queued) → t ≢ u → done (Posts u q) (done (Posts t p) s) ≡ done (Posts t p) (done (Posts u q) s)
+posts_posts s t u p q differ = ap (λ (qs : List (List Queued)). record s { apcs = qs }) (pushed_comm s.apcs t u p q differ)
 
 filter_last : (p : Queued → Bool) (l : List Queued) (q : Queued) → p q ≡ true → filter p (l ++ q ∷ []) ≡ filter p l ++ q ∷ []
 filter_last p [] q e = ap (λ (b : Bool). if b then q ∷ [] else []) e
@@ -171,13 +173,18 @@ filter_last p (x ∷ l) q e = go (p x) (filter_last p l q e)
     go true rest = ap (λ (xs : List Queued). x ∷ xs) rest
     go false rest = rest
 
-withdrawn_pushed : (qs : List (List Queued)) (t h x y : ℕ) → withdrawn (pushed qs t (asked_apc x y)) h ≡ pushed (withdrawn qs h) t (asked_apc x y)
-withdrawn_pushed [] t h x y = refl
-withdrawn_pushed (l ∷ qs) zero h x y = ap (λ (z : List Queued). z ∷ withdrawn qs h) (filter_last (λ q. not (is_from h q.timer)) l (asked_apc x y) refl)
-withdrawn_pushed (l ∷ qs) (suc t) h x y = ap (λ (zs : List (List Queued)). without_from h l ∷ zs) (withdrawn_pushed qs t h x y)
+withdrawn_pushed : (qs : List (List Queued)) (t h : ℕ) (q : Queued) → is_from h q.timer ≡ false → withdrawn (pushed qs t q) h ≡ pushed (withdrawn qs h) t q
+withdrawn_pushed [] t h q other = refl
+withdrawn_pushed (l ∷ qs) zero h q other = ap (λ (z : List Queued). z ∷ withdrawn qs h) (filter_last (λ x. not (is_from h x.timer)) l q (ap not other))
+withdrawn_pushed (l ∷ qs) (suc t) h q other = ap (λ (zs : List (List Queued)). without_from h l ∷ zs) (withdrawn_pushed qs t h q other)
 
-posts_withdraws : (s : State) (t h x y : ℕ) → done (Withdraws h) (done (Posts t x y) s) ≡ done (Posts t x y) (done (Withdraws h) s)
-posts_withdraws s t h x y = ap (λ (qs : List (List Queued)). record s { apcs = qs }) (withdrawn_pushed s.apcs t h x y)
+posts_withdraws : (s : State) (t h : ℕ) (q : Queued) → is_from h q.timer ≡ false → done (Withdraws h) (done (Posts t q) s) ≡ done (Posts t q) (done (Withdraws h) s)
+posts_withdraws s t h q other = ap (λ (qs : List (List Queued)). record s { apcs = qs }) (withdrawn_pushed s.apcs t h q other)
+
+-- an APC of another timer, or of none
+not_from : (h : ℕ) (o : Option ℕ) → (o ≡ Some h → ⊥) → is_from h o ≡ false
+not_from h None none = refl
+not_from h (Some x) none = same_no x h (λ e. none (ap (λ (i : ℕ). Some i) e))
 
 pub closes_closes : (hs : List (Option Opened)) (h k : ℕ) → slice_set (slice_set hs h None) k None ≡ slice_set (slice_set hs k None) h None
 closes_closes hs h k = elim (cases_eq h k) [
@@ -193,10 +200,10 @@ none_from h (q ∷ l) none = go (is_from h q.timer) refl (none_from h l)
     go true is rest = absurd (none (ap (λ (b : Bool). b || has_from h l) is))
     go false is rest = ap (λ (z : List Queued). q ∷ z) (rest (λ e. none (ap (λ (b : Bool). b || has_from h l) is ∙ e)))
 
-drops_posts : (s : State) (t u x y : ℕ) (l : List Queued) → t ≢ u → done (Posts u x y) (done (Drops t l) s) ≡ done (Drops t l) (done (Posts u x y) s)
-drops_posts s t u x y l differ =
-    ap (λ (z : List Queued). record s { apcs = slice_set (slice_set s.apcs t l) u (z ++ asked_apc x y ∷ []) }) (get_or-set_other s.apcs t u l [] (λ e. differ (sym e)))
-    ∙ ap (λ (qs : List (List Queued)). record s { apcs = qs }) (set_comm s.apcs t u l (apc_queue_of s.apcs u ++ asked_apc x y ∷ []) differ)
+drops_posts : (s : State) (t u : ℕ) (q : Queued) (l : List Queued) → t ≢ u → done (Posts u q) (done (Drops t l) s) ≡ done (Drops t l) (done (Posts u q) s)
+drops_posts s t u q l differ =
+    ap (λ (z : List Queued). record s { apcs = slice_set (slice_set s.apcs t l) u (z ++ q ∷ []) }) (get_or-set_other s.apcs t u l [] (λ e. differ (sym e)))
+    ∙ ap (λ (qs : List (List Queued)). record s { apcs = qs }) (set_comm s.apcs t u l (apc_queue_of s.apcs u ++ q ∷ []) differ)
 
 withdrawn_set : (qs : List (List Queued)) (t h : ℕ) (l : List Queued) → without_from h l ≡ l → withdrawn (slice_set qs t l) h ≡ slice_set (withdrawn qs h) t l
 withdrawn_set [] t h l none = refl
@@ -216,13 +223,13 @@ parts_commute r (Leaves t) (Leaves u) s os ts kp kq = leaves_leaves s t u
 parts_commute r (Leaves t) (Joins u w) s os ts kp kq = leaves_joins s t u w (λ e. ts u e refl)
 parts_commute r (Joins t v) (Leaves u) s os ts kp kq = sym (leaves_joins s u t v (λ e. ts u (sym e) refl))
 parts_commute r (Joins t v) (Joins u w) s os ts kp kq = joins_joins s t u v w (λ e. ts u e refl) os
-parts_commute r (Posts t x y) (Posts u x' y') s os ts kp kq = posts_posts s t u x y x' y' (λ e. ts u e refl)
-parts_commute r (Posts t x y) (Withdraws h) s os ts kp kq = posts_withdraws s t h x y
-parts_commute r (Withdraws h) (Posts t x y) s os ts kp kq = sym (posts_withdraws s t h x y)
+parts_commute r (Posts t p) (Posts u q) s os ts kp kq = posts_posts s t u p q (λ e. ts u e refl)
+parts_commute r (Posts t q) (Withdraws h) s os ts kp kq = posts_withdraws s t h q (not_from h q.timer (λ e. os h e refl))
+parts_commute r (Withdraws h) (Posts t q) s os ts kp kq = sym (posts_withdraws s t h q (not_from h q.timer (λ e. os h refl e)))
 parts_commute r (Withdraws h) (Withdraws k) s os ts kp kq = ap (λ (qs : List (List Queued)). record s { apcs = qs }) (withdrawn_comm s.apcs k h)
 parts_commute r (Drops t l) (Drops u m) s os ts kp kq = ap (λ (qs : List (List Queued)). record s { apcs = qs }) (set_comm s.apcs t u l m (λ e. ts u e refl))
-parts_commute r (Drops t l) (Posts u x y) s os ts kp kq = drops_posts s t u x y l (λ e. ts u e refl)
-parts_commute r (Posts t x y) (Drops u l) s os ts kp kq = sym (drops_posts s u t x y l (λ e. ts u (sym e) refl))
+parts_commute r (Drops t l) (Posts u q) s os ts kp kq = drops_posts s t u q l (λ e. ts u e refl)
+parts_commute r (Posts t q) (Drops u l) s os ts kp kq = sym (drops_posts s u t q l (λ e. ts u (sym e) refl))
 parts_commute r (Drops t l) (Withdraws h) s os ts kp kq = drops_withdraws s t h l (λ e. ts t refl (kp h e))
 parts_commute r (Withdraws h) (Drops t l) s os ts kp kq = sym (drops_withdraws s t h l (λ e. ts t (kq h e) refl))
 parts_commute r (Closes h) (Closes k) s os ts kp kq = ap (λ (hs : List (Option Opened)). record s { handles = hs }) (closes_closes s.handles h k)

@@ -1,8 +1,9 @@
 -- The calls that have a footprint: each is made of parts that touch nothing else, and of the same parts in a state that is alike.
-use Rattle.std.proofs.Common.{◌≡◌, inl, inr, ℕ, zero, suc, Bool, true, false, ◌&&◌, ◌||◌, List, [], ◌∷◌, ◌++◌, length, refl, sym, ap, ◌∙◌, subst, Option, Some, None, is_some, Contains, arith}
+use Rattle.std.proofs.Common.{◌≡◌, ◌⊎◌, inl, inr, ℕ, zero, suc, Bool, true, false, ◌&&◌, ◌||◌, List, [], ◌∷◌, ◌++◌, length, refl, sym, ap, ◌∙◌, subst, Option, Some, None, is_some, Contains, arith}
 use Rattle.std.specs.Prelude.{slice_set, slice_index_or, if◌then◌else◌}
 use Rattle.std.specs.List.{list_any}
 use Rattle.std.specs.FinMap.{get}
+use Rattle.std.proofs.lemmas.Bool.{false≢true}
 use Rattle.std.proofs.lemmas.List.{length-set}
 use Rattle.nt_status.proofs.Lists.{contains_first, contains_later}
 use Rattle.nt_machine.proofs.Walks.{get_same}
@@ -23,7 +24,7 @@ use Rattle.nt_apart.specs.Apart.{IsQuiet}
 use Rattle.nt_apart.specs.Reach.{signals_one, signaled_one, IsInReach}
 use Rattle.nt_apart.specs.Apcs.{queues_one}
 use Rattle.nt_apart.specs.Timers.{times_one, timed_one}
-use Rattle.nt_apart.specs.Footprint.{closes_one, takes_apc, SignalsFirst, WaitsFor, TouchesObject, TouchesThread}
+use Rattle.nt_apart.specs.Footprint.{closes_one, takes_apc, fires_one, SignalsFirst, WaitsFor, TouchesObject, TouchesThread}
 use Rattle.nt_apart.proofs.Waiting.{none_changed}
 use Rattle.nt_apart.proofs.Pieces.{Piece, Alters, Ends, made, all_made, idle_along, alerted_before}
 use Rattle.nt_apart.proofs.Reach.{AreOf, is_named, change_agree, IsBeside, only_one}
@@ -35,20 +36,20 @@ use Rattle.nt_apart.proofs.Parts.{Part, Changes, Hands, Leaves, Posts, Withdraws
 use Rattle.nt_apart.proofs.Alike.{Alike, AreIdle}
 
 -- the waits that the call may end as it serves objects
-abbrev pub MayEnd : Call → Wait → Type 0
-MayEnd (Call.Act a) w = (signals_one a ≡ true) × (wait_names w (signaled_one a) ≡ true)
-MayEnd (Call.Wait wait) w = (h : ℕ) × SignalsFirst wait h × (wait_names w h ≡ true)
-MayEnd Call.Exit w = ⊥
+abbrev pub MayEnd : ℕ → Call → Wait → Type 0
+MayEnd now (Call.Act a) w = ((signals_one a ≡ true) × (wait_names w (signaled_one a) ≡ true)) ⊎ ((fires_one now a ≡ true) × (wait_names w (timed_one a) ≡ true))
+MayEnd now (Call.Wait wait) w = (h : ℕ) × SignalsFirst wait h × (wait_names w h ≡ true)
+MayEnd now Call.Exit w = ⊥
 
 -- the states have in common what the call touches in s
 abbrev pub AlikeFor : State → ℕ → Call → State → State → Type 0
-AlikeFor s t c x y = Alike (TouchesObject s c) (TouchesThread s t c) (MayEnd c) x y
+AlikeFor s t c x y = Alike (TouchesObject s c) (TouchesThread s t c) (MayEnd s.now c) x y
 
 -- x is s, or a state that is alike, as far as is asked
 pub record IsFrom (s : State) (t : ℕ) (c : Call) (x : State) : Type 0 where
   pub quiet : IsQuiet x
   pub now : x.now ≡ s.now
-  pub known : (v : ℕ) (w : Wait) → MayEnd c w → get x.waits v ≡ Some w → get s.waits v ≡ Some w
+  pub known : (v : ℕ) (w : Wait) → MayEnd s.now c w → get x.waits v ≡ Some w → get s.waits v ≡ Some w
   pub apcs : (v : ℕ) → TouchesThread s t c v → apc_queue_of x.apcs v ≡ apc_queue_of s.apcs v
 
 -- the step in x is these parts, and the same in y
@@ -64,7 +65,7 @@ pub record IsMade (s x y new : State) (t : ℕ) (c : Call) (r : Reply) (gs : Lis
 
 -- ---- signals
 
-are_known : (s x : State) (h : ℕ) (ps : List Piece) → ((v : ℕ) (w : Wait) → wait_names w h ≡ true → get x.waits v ≡ Some w → get s.waits v ≡ Some w) → AreOf x h ps → AreOf s h ps
+pub are_known : (s x : State) (h : ℕ) (ps : List Piece) → ((v : ℕ) (w : Wait) → wait_names w h ≡ true → get x.waits v ≡ Some w → get s.waits v ≡ Some w) → AreOf x h ps → AreOf s h ps
 are_known s x h [] known are = tt
 are_known s x h (Alters k f ∷ ps) known are = (are.0, are_known s x h ps known are.1)
 are_known s x h (Ends t hs ∷ ps) known are = ((are.0.0, known t are.0.0 are.0.2 are.0.1, are.0.2, are.0.3), are_known s x h ps known are.1)
@@ -105,10 +106,10 @@ beside_alike s x y t a kind from quiet alike =
     let f = signaling a in
     record {
       long = length-set y.objects h (f (object_at y.objects h)) ∙ (alike.long ∙ sym (length-set x.objects h (f (object_at x.objects h))));
-      there = λ v w e n. alike.there v w (kind, n) e;
-      back = λ v w e n. alike.back v w (kind, n) e;
+      there = λ v w e n. alike.there v w (inl (kind, n)) e;
+      back = λ v w e n. alike.back v w (inl (kind, n)) e;
       agree = λ v w e n o m.
-          change_agree y.objects x.objects h o f alike.long (alike.objects h (inl (kind, inl refl))) (alike.objects o (inl (kind, inr (v, w, from.known v w (kind, n) e, n, is_named o w.objects m))));
+          change_agree y.objects x.objects h o f alike.long (alike.objects h (inl (kind, inl refl))) (alike.objects o (inl (kind, inr (v, w, from.known v w (inl (kind, n)) e, n, is_named o w.objects m))));
       only = only_one x h f from.quiet.served;
       only_too = only_one y h f quiet.served;
     }
@@ -130,7 +131,7 @@ signal_pieces s x y new t a r gs kind from quiet alike step =
     let go = moved x x new y t a r gs one kind (λ v w e. e) alike.queues (beside_alike s x y t a kind from quiet alike) alike.long (alike.objects h (inl (kind, inl refl))) quiet.calm in
     record {
       pieces = ps;
-      are = are_known s x h ps (λ v w n e. from.known v w (kind, n) e) (whole_of x a own go.0);
+      are = are_known s x h ps (λ v w n e. from.known v w (inl (kind, n)) e) (whole_of x a own go.0);
       state = whole_is x new t a r gs one;
       step = make_signal y (all_made ps y) t a r gs kind go.1;
       quiet = record { served = go.2; calm = λ v alerted. quiet.calm v (alerted_before ps y v alerted) };
@@ -192,6 +193,9 @@ over_idle x us v m = go (get (waits_over x us true).waits v) refl
     go None e = refl
     go (Some w) e = absurd ((over_pended x us true v w e).0 m)
 
+never_some : (o : ℕ) → None ≡ Some o → ⊥
+never_some o e = let h : false ≡ true = ap is_some e in false≢true h
+
 -- two queues that are set to the same
 set_alike : (ys xs : List (List Queued)) (k : ℕ) (l : List Queued) → length ys ≡ length xs → apc_queue_of (slice_set ys k l) k ≡ apc_queue_of (slice_set xs k l) k
 set_alike [] [] k l long = refl
@@ -223,11 +227,11 @@ apc_made_so s x y new t k routine arg r gs from quiet alike step =
     let same : n ≡ all_done (rousing us) (with_apc y k q) = roused us (with_apc y k q) in
     let quiet_last : IsQuiet n = record { served = over_served (with_apc y k q) us true quiet.served; calm = over_calm (with_apc y k q) us true second.alerted } in
     record {
-      parts = Posts k routine arg ∷ rousing us;
+      parts = Posts k q ∷ rousing us;
       state = one.state ∙ roused us (with_apc x k q);
       step = subst (λ (z : State). Step y t (Call.Act (Act.QueueApc k routine arg)) r gs z) same (make_apc y n t k routine arg r gs quiet.served second);
       quiet = subst IsQuiet same quiet_last;
-      objects = λ o m. elim m [ inl none ↦ absurd none | inr later ↦ absurd (rouses_no_object us o later) ];
+      objects = λ o m. elim m [ inl none ↦ absurd (never_some o none) | inr later ↦ absurd (rouses_no_object us o later) ];
       threads = λ v m. inr (inl (refl, elim m [ inl e ↦ sym e | inr later ↦ only v (rouses_them s us v later) ]));
       idle = λ v m. elim m [ inl none ↦ absurd none | inr later ↦ inr (ap (λ (z : State). pends z v) (sym same) ∙ over_idle (with_apc y k q) us v (moves_them us v later)) ];
       keeps = (tt, rousing_keeps s us);
@@ -255,7 +259,7 @@ timer_made s x y new t a r gs kind from quiet alike step =
     let one = quiet_step x new (timed x h g) t a r gs to_x step in
     let second : IsQuietStep y (timed y h g) (timed y h g) t a r gs = record {
       numbers = one.numbers;
-      changed = numbers_for x y h g one.numbers alike.long (alike.objects h (inr (kind, refl))) one.changed;
+      changed = numbers_for x y h g one.numbers alike.long (alike.objects h (inr (inl (kind, refl)))) one.changed;
       grants = one.grants;
       state = refl;
       reply = one.reply ∙ done_is x y t s.now a kind;
@@ -265,7 +269,7 @@ timer_made s x y new t a r gs kind from quiet alike step =
       state = one.state;
       step = make_quiet y (timed y h g) (timed y h g) t a r gs to_y second;
       quiet = record { served = to_y.served; calm = to_y.calm };
-      objects = λ o m. inr (kind, elim m [ inl e ↦ sym e | inr none ↦ elim none [ inl never ↦ absurd never | inr never ↦ absurd never ] ]);
+      objects = λ o m. inr (inl (kind, elim m [ inl e ↦ sym e | inr later ↦ elim later [ inl e ↦ sym e | inr never ↦ absurd never ] ]));
       threads = λ v m. inr (inr (inl (kind, elim m [ inl none ↦ absurd none | inr here ↦ elim here [ inl e ↦ e | inr never ↦ absurd never ] ])));
       idle = λ v m. elim m [ inl none ↦ absurd none | inr here ↦ elim here [ inl never ↦ absurd never | inr never ↦ absurd never ] ];
       keeps = (tt, (tt, tt));
@@ -368,7 +372,7 @@ taking_keeps s t false l is = (tt, tt)
 
 next_made_so : (s x y new : State) (t : ℕ) (r : Reply) (gs : List Grant) → IsFrom s t (Call.Act Act.NextApc) x → IsQuiet y → AlikeFor s t (Call.Act Act.NextApc) x y → Step x t (Call.Act Act.NextApc) r gs new → IsMade s x y new t (Call.Act Act.NextApc) r gs
 next_made_so s x y new t r gs from quiet alike step =
-    let here : TouchesThread s t (Call.Act Act.NextApc) t = inr (inr (inr (refl, refl))) in
+    let here : TouchesThread s t (Call.Act Act.NextApc) t = inr (inr (inr (inl (refl, refl)))) in
     let b : Bool = may_take x t in
     let l : List Queued = apc_queue_of x.apcs t in
     let queue : apc_queue_of y.apcs t ≡ l = alike.apcs t here in
@@ -397,7 +401,7 @@ next_made_so s x y new t r gs from quiet alike step =
       step = subst (λ (n : State). Step y t (Call.Act Act.NextApc) r gs n) leads (make_quiet y z z t Act.NextApc r gs to second);
       quiet = subst IsQuiet leads (quiet_took y t b quiet);
       objects = λ o m. absurd (taking_no_object t b l o m);
-      threads = λ v m. inr (inr (inr (refl, taking_own s t b l v m)));
+      threads = λ v m. inr (inr (inr (inl (refl, taking_own s t b l v m))));
       idle = λ v m. absurd (taking_moves_none t b l v m);
       keeps = taking_keeps s t b l (from.apcs t here);
     }

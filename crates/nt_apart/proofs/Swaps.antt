@@ -23,7 +23,7 @@ use Rattle.nt_apart.specs.Apart.{IsQuiet}
 use Rattle.nt_apart.specs.Reach.{signals_one, signaled_one, IsInReach}
 use Rattle.nt_apart.specs.Apcs.{queues_one}
 use Rattle.nt_apart.specs.Timers.{times_one}
-use Rattle.nt_apart.specs.Footprint.{takes_apc, SignalsFirst, WaitsFor, TouchesObject, TouchesThread}
+use Rattle.nt_apart.specs.Footprint.{takes_apc, fires_one, SignalsFirst, WaitsFor, TouchesObject, TouchesThread}
 use Rattle.nt_apart.proofs.Waiting.{wait_step, make_wait}
 use Rattle.nt_apart.proofs.Pieces.{Piece, Alters, Ends, made, all_made, long_each, long_along, idle_along, queue_along, find_flat}
 use Rattle.nt_apart.proofs.Reach.{AreOf, change_agree, each_agree}
@@ -40,6 +40,7 @@ record IsItsAct (h : ℕ) (o : Object) (a : Act) : Type 0 where
   signals : signals_one a ≡ true
   number : signaled_one a ≡ h
   timeless : (now : ℕ) → times_one now a ≡ false
+  fireless : (now : ℕ) → fires_one now a ≡ false
   queueless : queues_one a ≡ false
   taking : takes_apc a ≡ false
   same : signaling a o ≡ signal o
@@ -47,12 +48,12 @@ record IsItsAct (h : ℕ) (o : Object) (a : Act) : Type 0 where
   settles : (z : State) → after_serving (Call.Act a) z ≡ z
 
 unlocks : (h : ℕ) (o : Object) → signaling (Act.ReleaseMutex h) o ≡ signal o → IsItsAct h o (Act.ReleaseMutex h)
-unlocks h o same = record { signals = refl; number = refl; timeless = λ now. refl; queueless = refl; taking = refl; same = same; changes = λ z t. refl; settles = λ z. refl }
+unlocks h o same = record { signals = refl; number = refl; timeless = λ now. refl; fireless = λ now. refl; queueless = refl; taking = refl; same = same; changes = λ z t. refl; settles = λ z. refl }
 
 its_act : (h : ℕ) (o : Object) → (a : Act) × IsItsAct h o a
-its_act h (Event manual set) = (Act.SetEvent h, record { signals = refl; number = refl; timeless = λ now. refl; queueless = refl; taking = refl; same = refl; changes = λ z t. refl; settles = λ z. refl })
+its_act h (Event manual set) = (Act.SetEvent h, record { signals = refl; number = refl; timeless = λ now. refl; fireless = λ now. refl; queueless = refl; taking = refl; same = refl; changes = λ z t. refl; settles = λ z. refl })
 its_act h (Semaphore count maximum) =
-    (Act.ReleaseSemaphore h (pos 1), record { signals = refl; number = refl; timeless = λ now. refl; queueless = refl; taking = refl; same = refl; changes = λ z t. refl; settles = λ z. refl })
+    (Act.ReleaseSemaphore h (pos 1), record { signals = refl; number = refl; timeless = λ now. refl; fireless = λ now. refl; queueless = refl; taking = refl; same = refl; changes = λ z t. refl; settles = λ z. refl })
 its_act h (Mutex owner depth abandoned) = (Act.ReleaseMutex h, unlocks h (Mutex owner depth abandoned) refl)
 its_act h (Timer manual set armed) = (Act.ReleaseMutex h, unlocks h (Timer manual set armed) refl)
 its_act h (Thread ended) = (Act.ReleaseMutex h, unlocks h (Thread ended) refl)
@@ -101,13 +102,15 @@ never b n y = let h : true ≡ false = sym y ∙ n in (cc)
 
 act_object : (s : State) (h : ℕ) (a : Act) (v : Object) (o : ℕ) → IsItsAct h v a → TouchesObject s (Call.Act a) o → IsInReach s h o
 act_object s h a v o its (inl m) = subst (λ (i : ℕ). IsInReach s i o) its.number m.1
-act_object s h a v o its (inr m) = never (times_one s.now a) (its.timeless s.now) m.0
+act_object s h a v o its (inr (inl m)) = never (times_one s.now a) (its.timeless s.now) m.0
+act_object s h a v o its (inr (inr m)) = never (fires_one s.now a) (its.fireless s.now) m.0
 
 act_thread : (s : State) (t h : ℕ) (a : Act) (v : Object) (u : ℕ) → IsItsAct h v a → TouchesThread s t (Call.Act a) u → WaitsFor s u h
 act_thread s t h a v u its (inl m) = subst (λ (i : ℕ). WaitsFor s u i) its.number m.1
 act_thread s t h a v u its (inr (inl m)) = never (queues_one a) its.queueless m.0
 act_thread s t h a v u its (inr (inr (inl m))) = never (times_one s.now a) (its.timeless s.now) m.0
-act_thread s t h a v u its (inr (inr (inr m))) = never (takes_apc a) its.taking m.0
+act_thread s t h a v u its (inr (inr (inr (inl m)))) = never (takes_apc a) its.taking m.0
+act_thread s t h a v u its (inr (inr (inr (inr m)))) = never (fires_one s.now a) (its.fireless s.now) m.0
 
 as_object : (s : State) (h o : ℕ) (mode : WaitMode) (i : ℕ) → TouchesObject s (Call.Wait (WaitCall.Objects false mode (o ∷ []))) i → TouchesObject s (Call.Wait (WaitCall.Swap h o mode)) i
 as_object s h o mode i (inl m) = inl m
@@ -116,6 +119,10 @@ as_object s h o mode i (inr m) = absurd m.1
 is_caller : (s : State) (t o : ℕ) (mode : WaitMode) (v : ℕ) → TouchesThread s t (Call.Wait (WaitCall.Objects false mode (o ∷ []))) v → v ≡ t
 is_caller s t o mode v (inl e) = e
 is_caller s t o mode v (inr m) = absurd m.1
+
+act_ends : (now h : ℕ) (a : Act) (v : Object) (w : Wait) → IsItsAct h v a → MayEnd now (Call.Act a) w → wait_names w h ≡ true
+act_ends now h a v w its (inl may) = ap (λ (i : ℕ). wait_names w i) (sym its.number) ∙ may.1
+act_ends now h a v w its (inr may) = never (fires_one now a) (its.fireless now) may.0
 
 -- what is alike for more is alike for less
 less_alike : (O O' T T' : ℕ → Type 0) (W W' : Wait → Type 0) (x y : State) → ((o : ℕ) → O' o → O o) → ((v : ℕ) → T' v → T v) → ((w : Wait) → W' w → W w) → Alike O T W x y → Alike O' T' W' x y
@@ -144,7 +151,7 @@ apcs_made [] x = refl
 apcs_made (Alters k f ∷ ps) x = apcs_made ps (at x k f)
 apcs_made (Ends u hs ∷ ps) x = apcs_made ps (made (Ends u hs) x)
 
-not_idle : (s : State) (t : ℕ) (w : Wait) {P : Type 0} → get s.waits t ≡ Some w → pends s t ≡ false → P
+pub not_idle : (s : State) (t : ℕ) (w : Wait) {P : Type 0} → get s.waits t ≡ Some w → pends s t ≡ false → P
 not_idle s t w e idle = let h : true ≡ false = sym (ap is_some e) ∙ idle in (cc)
 
 hands_made : (s x : State) (h t : ℕ) (ps : List Piece) → AreOf s h ps → pends s t ≡ false → slice_index_or (all_made ps x).handing t false ≡ slice_index_or x.handing t false
@@ -176,26 +183,26 @@ objects_made s h O (Ends u hs ∷ ps) x y are reach long same o i =
 
 -- ---- parts of two lists
 
-done_append : (ps qs : List Part) (s : State) → all_done (ps ++ qs) s ≡ all_done qs (all_done ps s)
+pub done_append : (ps qs : List Part) (s : State) → all_done (ps ++ qs) s ≡ all_done qs (all_done ps s)
 done_append [] qs s = refl
 done_append (p ∷ ps) qs s = done_append ps qs (done p s)
 
-objects_append : (ps qs : List Part) (o : ℕ) → SomeOnObject (ps ++ qs) o → SomeOnObject ps o ⊎ SomeOnObject qs o
+pub objects_append : (ps qs : List Part) (o : ℕ) → SomeOnObject (ps ++ qs) o → SomeOnObject ps o ⊎ SomeOnObject qs o
 objects_append [] qs o m = inr m
 objects_append (p ∷ ps) qs o (inl m) = inl (inl m)
 objects_append (p ∷ ps) qs o (inr m) = elim (objects_append ps qs o m) [ inl n ↦ inl (inr n) | inr n ↦ inr n ]
 
-threads_append : (s : State) (ps qs : List Part) (v : ℕ) → SomeOnThread s (ps ++ qs) v → SomeOnThread s ps v ⊎ SomeOnThread s qs v
+pub threads_append : (s : State) (ps qs : List Part) (v : ℕ) → SomeOnThread s (ps ++ qs) v → SomeOnThread s ps v ⊎ SomeOnThread s qs v
 threads_append s [] qs v m = inr m
 threads_append s (p ∷ ps) qs v (inl m) = inl (inl m)
 threads_append s (p ∷ ps) qs v (inr m) = elim (threads_append s ps qs v m) [ inl n ↦ inl (inr n) | inr n ↦ inr n ]
 
-moves_append : (ps qs : List Part) (v : ℕ) → SomeMoves (ps ++ qs) v → SomeMoves ps v ⊎ SomeMoves qs v
+pub moves_append : (ps qs : List Part) (v : ℕ) → SomeMoves (ps ++ qs) v → SomeMoves ps v ⊎ SomeMoves qs v
 moves_append [] qs v m = inr m
 moves_append (p ∷ ps) qs v (inl m) = inl (inl m)
 moves_append (p ∷ ps) qs v (inr m) = elim (moves_append ps qs v m) [ inl n ↦ inl (inr n) | inr n ↦ inr n ]
 
-keep_append : (s : State) (ps qs : List Part) → AllKeep s ps → AllKeep s qs → AllKeep s (ps ++ qs)
+pub keep_append : (s : State) (ps qs : List Part) → AllKeep s ps → AllKeep s qs → AllKeep s (ps ++ qs)
 keep_append s [] qs kp kq = kq
 keep_append s (p ∷ ps) qs kp kq = (kp.0, keep_append s ps qs kp.1 kq)
 
@@ -206,7 +213,7 @@ moves_on s (Joins t w ∷ ps) v (inl e) = inl e
 moves_on s (Changes h f ∷ ps) v (inl none) = absurd none
 moves_on s (Gets t hs ∷ ps) v (inl none) = absurd none
 moves_on s (Hands t may ∷ ps) v (inl none) = absurd none
-moves_on s (Posts t x y ∷ ps) v (inl none) = absurd none
+moves_on s (Posts t q ∷ ps) v (inl none) = absurd none
 moves_on s (Withdraws h ∷ ps) v (inl none) = absurd none
 moves_on s (Drops t l ∷ ps) v (inl none) = absurd none
 moves_on s (Closes h ∷ ps) v (inl none) = absurd none
@@ -229,12 +236,12 @@ swap_made s x y new t h o mode r gs from quiet idle_s idle_y alike step =
     -- what the act touches the wait touches
     let on_object : (i : ℕ) → TouchesObject s (Call.Act a) i → TouchesObject s c i = λ i m. inr (h, refl, act_object s h a (object_at x.objects h) i is m) in
     let on_thread : (v : ℕ) → TouchesThread s t (Call.Act a) v → TouchesThread s t c v = λ v m. inr (h, refl, act_thread s t h a (object_at x.objects h) v is m) in
-    let may_end : (w : Wait) → MayEnd (Call.Act a) w → MayEnd c w = λ w may. (h, refl, ap (λ (i : ℕ). wait_names w i) (sym own) ∙ may.1) in
+    let may_end : (w : Wait) → MayEnd s.now (Call.Act a) w → MayEnd s.now c w = λ w may. (h, refl, act_ends s.now h a (object_at x.objects h) w is may) in
     let from_a : IsFrom s t (Call.Act a) x = record { quiet = from.quiet; now = from.now; known = λ v w may e. from.known v w (may_end w may) e; apcs = λ v m. from.apcs v (on_thread v m) } in
-    let alike_a : AlikeFor s t (Call.Act a) x y = less_alike (TouchesObject s c) (TouchesObject s (Call.Act a)) (TouchesThread s t c) (TouchesThread s t (Call.Act a)) (MayEnd c) (MayEnd (Call.Act a)) x y on_object on_thread may_end alike in
+    let alike_a : AlikeFor s t (Call.Act a) x y = less_alike (TouchesObject s c) (TouchesObject s (Call.Act a)) (TouchesThread s t c) (TouchesThread s t (Call.Act a)) (MayEnd s.now c) (MayEnd s.now (Call.Act a)) x y on_object on_thread may_end alike in
     let first : Step x t (Call.Act a) (act_reply x t a) gs step.woken = act_step x new t h o mode r gs a is step in
     let one = signal_pieces s x y step.woken t a (act_reply x t a) gs is.signals from_a quiet alike_a first in
-    let also = signal_pieces s x x step.woken t a (act_reply x t a) gs is.signals from_a from.quiet (alike_itself (TouchesObject s (Call.Act a)) (TouchesThread s t (Call.Act a)) (MayEnd (Call.Act a)) x) first in
+    let also = signal_pieces s x x step.woken t a (act_reply x t a) gs is.signals from_a from.quiet (alike_itself (TouchesObject s (Call.Act a)) (TouchesThread s t (Call.Act a)) (MayEnd s.now (Call.Act a)) x) first in
     let ps : List Piece = one.pieces in
     let are : AreOf s h ps = subst (λ (i : ℕ). AreOf s i ps) own one.are in
     let mx : State = all_made ps x in

@@ -116,7 +116,7 @@ rearmed_so armed (Mutex owner depth abandoned) u e = e
 rearmed_so armed (Thread ended) u e = e
 rearmed_so armed Gone u e = e
 
-set_so : (now t : ℕ) (a : Act) (o : Object) (u : ℕ) → signaled o u ≡ false → signaled (setting now t a o) u ≡ false
+pub set_so : (now t : ℕ) (a : Act) (o : Object) (u : ℕ) → signaled o u ≡ false → signaled (setting now t a o) u ≡ false
 set_so now t (Act.SetTimer h due period routine) o u e = unset_so (Some (record { due = due_moment now due; period = unsigned_abs period; routine = routine_for t routine })) o u e
 set_so now t (Act.CancelTimer h) o u e = rearmed_so None o u e
 set_so now t _ o u e = e
@@ -132,7 +132,7 @@ had_some : (p : Queued → Bool) (l : List Queued) → has_apc (filter p l ∷ [
 had_some p [] e = e
 had_some p (q ∷ l) e = refl
 
-had_apc : (qs : List (List Queued)) (h v : ℕ) → has_apc (withdrawn qs h) v ≡ true → has_apc qs v ≡ true
+pub had_apc : (qs : List (List Queued)) (h v : ℕ) → has_apc (withdrawn qs h) v ≡ true → has_apc qs v ≡ true
 had_apc [] h v e = e
 had_apc (l ∷ qs) h zero e = had_some (λ q. not (is_from h q.timer)) l e
 had_apc (l ∷ qs) h (suc v) e = had_apc qs h v e

@@ -18,7 +18,7 @@ use Rattle.nt_calls.specs.Steps.{Step}
 use Rattle.nt_apart.specs.Apart.{StepsGoOtherwise}
 use Rattle.nt_apart.specs.Reach.{signaled_one, IsInReach}
 use Rattle.nt_apart.specs.Timers.{times_one, timed_one}
-use Rattle.nt_apart.specs.TimersBeside.{AreSignalAndTimer, AreTimerAndSignal}
+use Rattle.nt_apart.specs.Timers.{AreSignalAndTimer, AreTimerAndSignal}
 use Rattle.nt_apart.proofs.Quiet.{changed_along, rising_along}
 use Rattle.nt_apart.proofs.Pieces.{Piece, Alters, Ends, made, all_made, SomeTouches, past, long_along, untouched, alerted_before}
 use Rattle.nt_apart.proofs.Reach.{AreOf, reached, is_named, change_agree, IsBeside, beside_back, only_one}

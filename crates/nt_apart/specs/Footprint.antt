@@ -1,5 +1,5 @@
 -- What a call may touch, and that two calls which touch nothing in common commute.
-use Rattle.std.specs.Prelude.{◌≡◌, ◌⊎◌, ℕ, Bool, true, false, ◌||◌, List, Some}
+use Rattle.std.specs.Prelude.{◌≡◌, ◌⊎◌, ℕ, Bool, true, false, ◌||◌, nat_le, List, Some}
 use Rattle.std.specs.FinMap.{get}
 use Rattle.nt_waits.specs.declared.wait.Wait.{Wait}
 use Rattle.nt_apc.specs.Queues.{apc_queue_of, has_from}
@@ -9,6 +9,7 @@ use Rattle.nt_calls.specs.declared.call.WaitCall.{WaitCall}
 use Rattle.nt_calls.specs.declared.call.Reply.{Reply}
 use Rattle.nt_calls.specs.declared.call.Grant.{Grant}
 use Rattle.nt_calls.specs.State.{State, wait_names, pends}
+use Rattle.nt_calls.specs.Change.{due_moment}
 use Rattle.nt_calls.specs.Steps.{Step, asked_wait}
 use Rattle.nt_apart.specs.Apart.{IsQuiet}
 use Rattle.nt_apart.specs.Reach.{signals_one, signaled_one, IsInReach}
@@ -27,9 +28,15 @@ abbrev pub takes_apc : Act → Bool
 takes_apc Act.NextApc = true
 takes_apc _ = false
 
--- the calls whose footprint is defined: waits, also those that signal an object before, and acts that signal an object, queue or take an APC, set a timer for later, cancel one, or close a handle
+-- at this moment the act sets a timer that is due at once
+abbrev pub fires_one : ℕ → Act → Bool
+fires_one now (Act.SetTimer h due period routine) = nat_le (due_moment now due) now
+fires_one now _ = false
+
+-- the calls whose footprint is defined: waits, also those that signal an object before, and acts that signal an object, queue or take an APC, set or cancel
+-- a timer, or close a handle
 abbrev pub has_footprint : ℕ → Call → Bool
-has_footprint now (Call.Act a) = signals_one a || (queues_one a || (times_one now a || (closes_one a || takes_apc a)))
+has_footprint now (Call.Act a) = signals_one a || (queues_one a || (times_one now a || (closes_one a || (takes_apc a || fires_one now a))))
 has_footprint now (Call.Wait wait) = true
 has_footprint now Call.Exit = false
 
@@ -46,19 +53,24 @@ WaitsFor s u h = (w : Wait) × (get s.waits u ≡ Some w) × (wait_names w h ≡
 abbrev pub has_apc_from : State → ℕ → ℕ → Bool
 has_apc_from s u h = has_from h (apc_queue_of s.apcs u)
 
--- a signal touches each object within its reach, a timer's act that timer, and a wait its objects and those within reach of what it signals before
+-- a signal touches each object within its reach, and so does a timer that is due at once; another timer's act touches that timer, and a wait its objects
+-- and those within reach of what it signals before
 abbrev pub TouchesObject : State → Call → ℕ → Type 0
-TouchesObject s (Call.Act a) o = ((signals_one a ≡ true) × IsInReach s (signaled_one a) o) ⊎ ((times_one s.now a ≡ true) × (o ≡ timed_one a))
+TouchesObject s (Call.Act a) o =
+    ((signals_one a ≡ true) × IsInReach s (signaled_one a) o)
+    ⊎ (((times_one s.now a ≡ true) × (o ≡ timed_one a)) ⊎ ((fires_one s.now a ≡ true) × IsInReach s (timed_one a) o))
 TouchesObject s (Call.Wait wait) o = (wait_names (asked_wait s.now wait) o ≡ true) ⊎ ((h : ℕ) × SignalsFirst wait h × IsInReach s h o)
 TouchesObject s Call.Exit o = ⊥
 
 -- a signal touches each thread that waits for its object, an APC its thread, a timer's act each thread that has an APC of it; a wait touches its thread
--- and those that wait for what it signals before, and an act that takes an APC its thread
+-- and those that wait for what it signals before, and an act that takes an APC its thread; a timer that is due at once touches all of these
 abbrev pub TouchesThread : State → ℕ → Call → ℕ → Type 0
 TouchesThread s t (Call.Act a) u =
     ((signals_one a ≡ true) × WaitsFor s u (signaled_one a))
     ⊎ (((queues_one a ≡ true) × (u ≡ queued_to a))
-    ⊎ (((times_one s.now a ≡ true) × (has_apc_from s u (timed_one a) ≡ true)) ⊎ ((takes_apc a ≡ true) × (u ≡ t))))
+    ⊎ (((times_one s.now a ≡ true) × (has_apc_from s u (timed_one a) ≡ true))
+    ⊎ (((takes_apc a ≡ true) × (u ≡ t))
+    ⊎ ((fires_one s.now a ≡ true) × ((u ≡ t) ⊎ ((has_apc_from s u (timed_one a) ≡ true) ⊎ WaitsFor s u (timed_one a)))))))
 TouchesThread s t (Call.Wait wait) u = (u ≡ t) ⊎ ((h : ℕ) × SignalsFirst wait h × WaitsFor s u h)
 TouchesThread s t Call.Exit u = ⊥
 

@@ -8,6 +8,7 @@ use Rattle.nt_calls.specs.State.{State}
 use Rattle.nt_calls.specs.Change.{due_moment}
 use Rattle.nt_calls.specs.Steps.{Step}
 use Rattle.nt_apart.specs.Apart.{IsQuiet, StepsGoOtherwise}
+use Rattle.nt_apart.specs.Reach.{signals_one, signaled_one, IsOutOfReach}
 
 -- at this moment the act sets a timer for a later one, or cancels a timer
 abbrev pub times_one : ℕ → Act → Bool
@@ -36,3 +37,37 @@ TwoTimersCommute =
     (s mid new : State) (t u : ℕ) (a b : Act) (ra rb : Reply) (ga gb : List Grant)
     → AreStepsOnTwoTimers s mid new t u a b ra rb ga gb
     → StepsGoOtherwise s new t u a b ra rb ga gb
+
+-- ---- beside an act that may end waits
+
+-- an act on one object is a step, and then a timer is set for later or cancelled that is not within reach of that object
+pub record AreSignalAndTimer (s mid new : State) (t u : ℕ) (a b : Act) (ra rb : Reply) (ga gb : List Grant) : Type 0 where
+  pub quiet : IsQuiet s
+  pub first_kind : signals_one a ≡ true
+  pub second_kind : times_one s.now b ≡ true
+  pub apart : IsOutOfReach s (signaled_one a) (timed_one b)
+  pub first : Step s t (Call.Act a) ra ga mid
+  pub second : Step mid u (Call.Act b) rb gb new
+
+-- such steps commute
+abbrev pub SignalsCommuteWithTimers : Type 0
+SignalsCommuteWithTimers =
+    (s mid new : State) (t u : ℕ) (a b : Act) (ra rb : Reply) (ga gb : List Grant)
+    → AreSignalAndTimer s mid new t u a b ra rb ga gb
+    → StepsGoOtherwise s new t u a b ra rb ga gb
+
+-- the timer is set or cancelled first, and then the act is a step
+pub record AreTimerAndSignal (s mid new : State) (t u : ℕ) (b a : Act) (rb ra : Reply) (gb ga : List Grant) : Type 0 where
+  pub quiet : IsQuiet s
+  pub first_kind : times_one s.now b ≡ true
+  pub second_kind : signals_one a ≡ true
+  pub apart : IsOutOfReach s (signaled_one a) (timed_one b)
+  pub first : Step s t (Call.Act b) rb gb mid
+  pub second : Step mid u (Call.Act a) ra ga new
+
+-- such steps commute too
+abbrev pub TimersCommuteWithSignals : Type 0
+TimersCommuteWithSignals =
+    (s mid new : State) (t u : ℕ) (b a : Act) (rb ra : Reply) (gb ga : List Grant)
+    → AreTimerAndSignal s mid new t u b a rb ra gb ga
+    → StepsGoOtherwise s new t u b a rb ra gb ga

@@ -3,8 +3,7 @@ ghost use Rattle.nt_apart.specs.Apart.{ChangesOfTwoObjectsCommute, CallsOnTwoObj
 ghost use Rattle.nt_apart.specs.Reach.{SignalsCommute};
 ghost use Rattle.nt_apart.specs.Apcs.{ApcsToTwoThreadsCommute};
 ghost use Rattle.nt_apart.specs.ApcsBeside.{SignalsCommuteWithApcs, ApcsCommuteWithSignals};
-ghost use Rattle.nt_apart.specs.Timers.{TwoTimersCommute};
-ghost use Rattle.nt_apart.specs.TimersBeside.{SignalsCommuteWithTimers, TimersCommuteWithSignals};
+ghost use Rattle.nt_apart.specs.Timers.{TwoTimersCommute, SignalsCommuteWithTimers, TimersCommuteWithSignals};
 ghost use Rattle.nt_apart.specs.Footprint.{StepsApartCommute};
 ghost use Rattle.nt_apart.specs.Closing.{TwoClosesCommute};
 
@@ -79,7 +78,7 @@ pub fn timers_commute_with_signals()
 {}
 
 /// Two calls that touch nothing in common may be made in either order: waits that begin, whether or not they signal an object
-/// before, and acts that signal an object, queue or take an APC, set a timer for later, cancel one, or close a handle.
+/// before, and acts that signal an object, queue or take an APC, set or cancel a timer, or close a handle.
 pub fn steps_apart_commute()
     ensures { StepsApartCommute }
 {}
