@@ -17,7 +17,7 @@ use Rattle.nt_calls.specs.Living.{is_awaited, runs, lives, is_forgotten, LivesWh
 use Rattle.nt_calls.specs.Naming.{object_in, object_named}
 use Rattle.nt_calls.specs.Steps.{Called}
 use Rattle.nt_apart.specs.Apart.{IsQuiet, CallsGoOtherwise}
-use Rattle.nt_apart.specs.Closing.{AreTwoCloses}
+use Rattle.nt_apart.specs.Footprint.{AreTwoCloses}
 use Rattle.nt_apart.proofs.Parts.{AllKeep, all_done, SomeOnObject, SomeOnThread, closes_closes, lists_commute}
 use Rattle.nt_apart.proofs.Closed.{IsFree, closing, ending, close_called, make_called, quiet_closed, handles_closed, forgotten_after, is_free, unrefused, free_before, free_after}
 

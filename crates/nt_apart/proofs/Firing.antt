@@ -1,7 +1,6 @@
 -- A timer that is set for a moment that is not ahead is made of its change, its APC, and the pieces of the waits that it ends.
-use Rattle.std.proofs.Common.{◌≡◌, ◌≢◌, ◌⊎◌, inl, inr, ℕ, ℤ, zero, suc, Bool, true, false, not, ◌||◌, List, [], ◌∷◌, ◌++◌, length, refl, sym, ap, ◌∙◌, subst, Option, Some, None, is_some}
-use Rattle.std.specs.Prelude.{unsigned_abs, nat_le, if◌then◌else◌}
-use Rattle.std.specs.List.{list_any}
+use Rattle.std.proofs.Common.{◌≡◌, ◌≢◌, inl, inr, ℕ, ℤ, zero, suc, Bool, true, false, not, ◌||◌, List, [], ◌∷◌, ◌++◌, refl, sym, ap, ◌∙◌, subst, Option, Some, None, is_some}
+use Rattle.std.specs.Prelude.{unsigned_abs, nat_le, ◌==◌, if◌then◌else◌}
 use Rattle.std.specs.FinMap.{get}
 use Rattle.std.proofs.lemmas.Bool.{cases_eq}
 use Rattle.std.proofs.lemmas.List.{length-set}
@@ -10,8 +9,7 @@ use Rattle.nt_machine.proofs.Changing.{served_fewer}
 use Rattle.nt_objects.specs.declared.object.Object.{Object}
 use Rattle.nt_objects.specs.declared.object.Object.TheVariants.{Event, Semaphore, Mutex, Timer, Thread, Gone}
 use Rattle.nt_objects.specs.declared.object.Armed.{Armed}
-use Rattle.nt_objects.specs.Object.{with_set, armed_with, setting_of, rearmed}
-use Rattle.nt_waits.specs.declared.wait.Wait.{Wait}
+use Rattle.nt_objects.specs.Object.{with_set, armed_with, set_by, setting_of, rearmed, next_above, units}
 use Rattle.nt_apc.specs.declared.apc.Queued.{Queued}
 use Rattle.nt_apc.specs.Queues.{has_apc, is_from, has_from, without_from, withdrawn, is_queued, pushed}
 use Rattle.nt_calls.specs.declared.call.Call.{Call}
@@ -20,21 +18,21 @@ use Rattle.nt_calls.specs.declared.call.Reply.{Reply}
 use Rattle.nt_calls.specs.declared.call.Grant.{Grant}
 use Rattle.nt_calls.specs.Rising.{AreRising}
 use Rattle.nt_calls.specs.State.{State, object_at, with_object, pends}
-use Rattle.nt_calls.specs.Serving.{IsServed, Serve, Alert, IsAlerted, IsChanged, sequence}
-use Rattle.nt_calls.specs.Change.{at, change, due_moment, routine_for, armed_anew, expired, expired_as, notified}
+use Rattle.nt_calls.specs.Serving.{IsServed, Serve, IsAlerted, IsChanged, sequence}
+use Rattle.nt_calls.specs.Change.{change, due_moment, routine_for, armed_anew, expired, expired_as, notified}
 use Rattle.nt_calls.specs.Steps.{Step}
 use Rattle.nt_apart.specs.Apart.{IsQuiet}
-use Rattle.nt_apart.specs.Reach.{IsInReach}
-use Rattle.nt_apart.specs.Footprint.{fires_one, TouchesObject, TouchesThread}
-use Rattle.nt_apart.proofs.Quiet.{alert_none, none_to_alert, changed_along, rising_along}
+use Rattle.nt_apart.specs.Footprint.{belongs, fires_one, TouchesThread}
+use Rattle.nt_apart.proofs.Quiet.{alert_none, none_to_alert}
 use Rattle.nt_apart.proofs.Pieces.{Piece, all_made, alerted_before}
 use Rattle.nt_apart.proofs.Reach.{AreOf, IsBeside, change_agree, is_named, only_one, pieces_of, source_is, granted_beside, due_beside}
 use Rattle.nt_apart.proofs.Apcs.{has_other}
 use Rattle.nt_apart.proofs.Timers.{IsQuietTo, IsQuietStep, quiet_step, make_quiet, timed, set_so, unready, calm_so, had_apc, both_true}
 use Rattle.nt_apart.proofs.TimersBeside.{numbers_for}
-use Rattle.nt_apart.proofs.Parts.{Part, Changes, Posts, Withdraws, AllKeep, all_done, SomeOnObject, SomeOnThread, SomeMoves, in_parts, in_parts_is, pieces_keep}
-use Rattle.nt_apart.proofs.PartsOfCalls.{MayEnd, AlikeFor, IsFrom, IsMade, are_known, on_reached, on_waiting, left_idle}
-use Rattle.nt_apart.proofs.Swaps.{not_idle, done_append, objects_append, threads_append, moves_append, keep_append}
+use Rattle.nt_apart.proofs.Parts.{Part, Changes, Posts, Withdraws, AllKeep, AllStrange, all_done, SomeOnObject, SomeOnThread, SomeMoves, in_parts, in_parts_is, pieces_keep}
+use Rattle.nt_apart.proofs.Alike.{not_idle, set_strange, armed_strange, unarmed_strange, routine_strange, ends_fair, pieces_strange}
+use Rattle.nt_apart.proofs.PartsOfCalls.{AlikeFor, IsFrom, IsMade, are_known, on_reached, on_waiting, left_idle}
+use Rattle.nt_apart.proofs.Swaps.{done_append, objects_append, threads_append, moves_append, keep_append, strange_append}
 
 -- ---- what such an act changes
 
@@ -156,6 +154,21 @@ lights_keep : (s : State) (now t h : ℕ) (armed : Armed) (routine : Option (ℕ
 lights_keep s now t h armed None = (tt, (tt, tt))
 lights_keep s now t h armed (Some r) = (tt, (tt, (tt, tt)))
 
+anew_strange : (v : ℕ) (armed : Armed) (o : Object) → set_by armed.routine v ≡ false → belongs v o ≡ false → belongs v (anew armed o) ≡ false
+anew_strange v armed o of e = armed_strange v armed (with_set false o) of (set_strange v false o e)
+
+rearmed_so : (v : ℕ) (armed other : Armed) (b : Bool) (o : Object) → set_by other.routine v ≡ false → belongs v o ≡ false → belongs v (armed_with (if b then None else Some other) o) ≡ false
+rearmed_so v armed other true o of e = unarmed_strange v o e
+rearmed_so v armed other false o of e = armed_strange v other o of e
+
+lit_strange : (now v : ℕ) (armed : Armed) (o : Object) → set_by armed.routine v ≡ false → belongs v o ≡ false → belongs v (lit now armed o) ≡ false
+lit_strange now v armed o of e =
+    rearmed_so v armed (record armed { due = next_above now armed.due (units armed.period) }) (armed.period == 0) (with_set true (anew armed o)) of (set_strange v true (anew armed o) (anew_strange v armed o of e))
+
+lights_strange : (now t h : ℕ) (armed : Armed) (routine : Option (ℕ × ℕ)) (v : ℕ) → set_by armed.routine v ≡ false → AllStrange v (lights now t h armed routine)
+lights_strange now t h armed None v of = ((λ o e. lit_strange now v armed o of e), (tt, tt))
+lights_strange now t h armed (Some r) v of = ((λ o e. lit_strange now v armed o of e), (tt, (tt, tt)))
+
 on_threads : (s : State) (now t h : ℕ) (due period : ℤ) (routine : Option (ℕ × ℕ)) (armed : Armed) (v : ℕ) → fires_one s.now (Act.SetTimer h due period routine) ≡ true → SomeOnThread s (lights now t h armed routine) v → TouchesThread s t (Call.Act (Act.SetTimer h due period routine)) v
 on_threads s now t h due period routine armed v kind (inl none) = absurd none
 on_threads s now t h due period routine armed v kind (inr (inl e)) = inr (inr (inr (inr (kind, inr (inl e)))))
@@ -226,6 +239,7 @@ lit_made s x y new t h due period routine r gs kind is from quiet idle_x idle_y 
         | inr n ↦ inr (ap (λ (z : State). pends z v) (sym (leads y)) ∙ left_idle ps fy v n)
       ];
       keeps = keep_append s cs (in_parts ps) (lights_keep s now t h armed routine) (pieces_keep s ps);
+      strange = λ v differs idle. strange_append v cs (in_parts ps) (lights_strange now t h armed routine v (routine_strange t v routine differs)) (pieces_strange s h ps v are (ends_fair v threads fx step.calm step.served serves.0) idle);
     }
 
 -- ---- what is no timer is left unset
@@ -262,6 +276,7 @@ unlit_made s x y new t h due period routine r gs kind is from quiet alike step =
       threads = λ v m. inr (inr (inr (inr (kind, inr (inl (elim m [ inl none ↦ absurd none | inr here ↦ elim here [ inl e ↦ e | inr never ↦ absurd never ] ]))))));
       idle = λ v m. elim m [ inl none ↦ absurd none | inr here ↦ elim here [ inl never ↦ absurd never | inr never ↦ absurd never ] ];
       keeps = (tt, (tt, tt));
+      strange = λ v differs idle. ((λ o e. anew_strange v armed o (routine_strange t v routine differs) e), (tt, tt));
     }
 
 -- ---- either

@@ -15,8 +15,10 @@ pub mod Parts
 pub mod Alike
 pub mod PartsOfCalls
 pub mod PartsOfWaits
+pub mod Taking
 pub mod Swaps
 pub mod Firing
+pub mod Exits
 pub mod Footprint
 pub mod Closed
 pub mod Closing

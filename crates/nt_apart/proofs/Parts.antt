@@ -18,6 +18,7 @@ use Rattle.nt_apc.specs.Queues.{apc_queue_of, pushed, is_from, has_from, without
 use Rattle.nt_calls.specs.State.{State, Pending, wait_names, with_handing, pending_too, pending_no_more}
 use Rattle.nt_calls.specs.Serving.{take_each}
 use Rattle.nt_calls.specs.Change.{at, handle_closed}
+use Rattle.nt_apart.specs.Footprint.{belongs}
 use Rattle.nt_apart.proofs.Quiet.{changes_commute}
 use Rattle.nt_apart.proofs.Waking.{take_all}
 use Rattle.nt_apart.proofs.Waits.{none_equal, each_comm, inserts_comm, queue_comm}
@@ -103,6 +104,24 @@ KeepsTimers s _ = Unit {0}
 abbrev pub AllKeep : State → List Part → Type 0
 AllKeep s [] = Unit {0}
 AllKeep s (p ∷ ps) = KeepsTimers s p × AllKeep s ps
+
+-- what thread v does not have is not v's then either
+abbrev pub IsStrange : ℕ → Part → Type 0
+IsStrange v (Changes h f) = (o : Object) → belongs v o ≡ false → belongs v (f o) ≡ false
+IsStrange v (Gets t hs) = v ≢ t
+IsStrange v _ = Unit {0}
+
+abbrev pub AllStrange : ℕ → List Part → Type 0
+AllStrange v [] = Unit {0}
+AllStrange v (p ∷ ps) = IsStrange v p × AllStrange v ps
+
+abbrev pub IsFair : ℕ → Piece → Type 0
+IsFair v (Alters h f) = (o : Object) → belongs v o ≡ false → belongs v (f o) ≡ false
+IsFair v (Ends t hs) = Unit {0}
+
+abbrev pub AllFair : ℕ → List Piece → Type 0
+AllFair v [] = Unit {0}
+AllFair v (p ∷ ps) = IsFair v p × AllFair v ps
 
 -- ---- two parts in either order
 

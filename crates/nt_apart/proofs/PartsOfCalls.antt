@@ -1,56 +1,60 @@
 -- The calls that have a footprint: each is made of parts that touch nothing else, and of the same parts in a state that is alike.
-use Rattle.std.proofs.Common.{◌≡◌, ◌⊎◌, inl, inr, ℕ, zero, suc, Bool, true, false, ◌&&◌, ◌||◌, List, [], ◌∷◌, ◌++◌, length, refl, sym, ap, ◌∙◌, subst, Option, Some, None, is_some, Contains, arith}
-use Rattle.std.specs.Prelude.{slice_set, slice_index_or, if◌then◌else◌}
+use Rattle.std.proofs.Common.{◌≡◌, ◌≢◌, ◌⊎◌, inl, inr, ℕ, zero, suc, true, false, List, [], ◌∷◌, ◌++◌, length, refl, sym, ap, ◌∙◌, subst, Option, Some, None, is_some, Contains, arith}
+use Rattle.std.specs.Prelude.{slice_set}
 use Rattle.std.specs.List.{list_any}
 use Rattle.std.specs.FinMap.{get}
 use Rattle.std.proofs.lemmas.Bool.{false≢true}
 use Rattle.std.proofs.lemmas.List.{length-set}
 use Rattle.nt_status.proofs.Lists.{contains_first, contains_later}
 use Rattle.nt_machine.proofs.Walks.{get_same}
-use Rattle.nt_objects.specs.declared.object.Object.{Object}
 use Rattle.nt_waits.specs.declared.wait.Wait.{Wait}
 use Rattle.nt_apc.specs.declared.apc.Queued.{Queued}
-use Rattle.nt_apc.specs.Queues.{apc_queue_of, has_apc, pushed, is_from, has_from, oldest, without_oldest, apc_of as apc_in, oldest_taken}
+use Rattle.nt_apc.specs.Queues.{apc_queue_of, has_apc, pushed}
 use Rattle.nt_calls.specs.declared.call.Call.{Call}
 use Rattle.nt_calls.specs.declared.call.Act.{Act}
 use Rattle.nt_calls.specs.declared.call.Reply.{Reply}
 use Rattle.nt_calls.specs.declared.call.Grant.{Grant}
-use Rattle.nt_calls.specs.State.{State, object_at, wait_names, pends, with_handing, waits_over}
-use Rattle.nt_calls.specs.Rising.{AreRising}
-use Rattle.nt_calls.specs.Serving.{IsAlerted, IsChanged}
-use Rattle.nt_calls.specs.Change.{at, handle_closed, may_take}
+use Rattle.nt_calls.specs.State.{State, object_at, wait_names, pends, waits_over}
+use Rattle.nt_calls.specs.Serving.{sequence}
+use Rattle.nt_calls.specs.Change.{at, handle_closed}
 use Rattle.nt_calls.specs.Steps.{Step}
 use Rattle.nt_apart.specs.Apart.{IsQuiet}
 use Rattle.nt_apart.specs.Reach.{signals_one, signaled_one, IsInReach}
 use Rattle.nt_apart.specs.Apcs.{queues_one}
 use Rattle.nt_apart.specs.Timers.{times_one, timed_one}
-use Rattle.nt_apart.specs.Footprint.{closes_one, takes_apc, fires_one, SignalsFirst, WaitsFor, TouchesObject, TouchesThread}
+use Rattle.nt_apart.specs.Footprint.{closes_one, fires_one, belongs, ends_with, SignalsFirst, WaitsFor, TouchesObject, TouchesThread}
 use Rattle.nt_apart.proofs.Waiting.{none_changed}
 use Rattle.nt_apart.proofs.Pieces.{Piece, Alters, Ends, made, all_made, idle_along, alerted_before}
 use Rattle.nt_apart.proofs.Reach.{AreOf, is_named, change_agree, IsBeside, only_one}
 use Rattle.nt_apart.proofs.Signals.{signaling, signal_step, make_signal, pieces_in, whole, whole_of, whole_is, moved}
 use Rattle.nt_apart.proofs.Apcs.{with_apc, asked_apc, over_pended, over_served, over_calm, only_target, alerted_alike, IsApcStep, apc_step, make_apc, apc_of}
-use Rattle.nt_apart.proofs.Timers.{IsQuietTo, IsQuietStep, quiet_step, make_quiet, timed, setting, done_is, quiet_to, both_true}
+use Rattle.nt_apart.proofs.Timers.{IsQuietTo, IsQuietStep, quiet_step, make_quiet, timed, setting, done_is, quiet_to}
 use Rattle.nt_apart.proofs.TimersBeside.{numbers_for}
-use Rattle.nt_apart.proofs.Parts.{Part, Changes, Hands, Leaves, Posts, Withdraws, Drops, Closes, AllKeep, all_done, SomeOnObject, SomeOnThread, SomeMoves, in_parts, pieces_keep, in_parts_is}
-use Rattle.nt_apart.proofs.Alike.{Alike, AreIdle}
+use Rattle.nt_apart.proofs.Parts.{Part, Changes, Hands, Leaves, Posts, Withdraws, Closes, AllKeep, AllFair, AllStrange, all_done, SomeOnObject, SomeOnThread, SomeMoves, in_parts, pieces_keep, in_parts_is}
+use Rattle.nt_apart.proofs.Alike.{Alike, AreIdle, pieces_strange, ends_fair, whole_fair, setting_strange}
 
 -- the waits that the call may end as it serves objects
-abbrev pub MayEnd : ℕ → Call → Wait → Type 0
-MayEnd now (Call.Act a) w = ((signals_one a ≡ true) × (wait_names w (signaled_one a) ≡ true)) ⊎ ((fires_one now a ≡ true) × (wait_names w (timed_one a) ≡ true))
-MayEnd now (Call.Wait wait) w = (h : ℕ) × SignalsFirst wait h × (wait_names w h ≡ true)
-MayEnd now Call.Exit w = ⊥
+abbrev pub MayEnd : State → ℕ → Call → Wait → Type 0
+MayEnd s t (Call.Act a) w = ((signals_one a ≡ true) × (wait_names w (signaled_one a) ≡ true)) ⊎ ((fires_one s.now a ≡ true) × (wait_names w (timed_one a) ≡ true))
+MayEnd s t (Call.Wait wait) w = (h : ℕ) × SignalsFirst wait h × (wait_names w h ≡ true)
+MayEnd s t Call.Exit w = (h : ℕ) × (ends_with s t h ≡ true) × (wait_names w h ≡ true)
+
+-- the thread that the call ends
+abbrev pub Exits : ℕ → Call → ℕ → Type 0
+Exits t Call.Exit v = v ≡ t
+Exits t _ v = ⊥
 
 -- the states have in common what the call touches in s
 abbrev pub AlikeFor : State → ℕ → Call → State → State → Type 0
-AlikeFor s t c x y = Alike (TouchesObject s c) (TouchesThread s t c) (MayEnd s.now c) x y
+AlikeFor s t c x y = Alike (TouchesObject s t c) (TouchesThread s t c) (MayEnd s t c) (Exits t c) x y
 
 -- x is s, or a state that is alike, as far as is asked
 pub record IsFrom (s : State) (t : ℕ) (c : Call) (x : State) : Type 0 where
   pub quiet : IsQuiet x
   pub now : x.now ≡ s.now
-  pub known : (v : ℕ) (w : Wait) → MayEnd s.now c w → get x.waits v ≡ Some w → get s.waits v ≡ Some w
+  pub known : (v : ℕ) (w : Wait) → MayEnd s t c w → get x.waits v ≡ Some w → get s.waits v ≡ Some w
   pub apcs : (v : ℕ) → TouchesThread s t c v → apc_queue_of x.apcs v ≡ apc_queue_of s.apcs v
+  pub owned : (v o : ℕ) → Exits t c v → belongs v (object_at x.objects o) ≡ belongs v (object_at s.objects o)
 
 -- the step in x is these parts, and the same in y
 pub record IsMade (s x y new : State) (t : ℕ) (c : Call) (r : Reply) (gs : List Grant) : Type 0 where
@@ -58,10 +62,11 @@ pub record IsMade (s x y new : State) (t : ℕ) (c : Call) (r : Reply) (gs : Lis
   pub state : new ≡ all_done parts x
   pub step : Step y t c r gs (all_done parts y)
   pub quiet : IsQuiet (all_done parts y)
-  pub objects : (o : ℕ) → SomeOnObject parts o → TouchesObject s c o
+  pub objects : (o : ℕ) → SomeOnObject parts o → TouchesObject s t c o
   pub threads : (v : ℕ) → SomeOnThread s parts v → TouchesThread s t c v
   pub idle : AreIdle parts y
   pub keeps : AllKeep s parts
+  pub strange : (v : ℕ) → v ≢ t → pends s v ≡ false → AllStrange v parts
 
 -- ---- signals
 
@@ -121,6 +126,7 @@ pub record IsPieced (s x y new : State) (t : ℕ) (a : Act) (r : Reply) (gs : Li
   pub state : new ≡ all_made pieces x
   pub step : Step y t (Call.Act a) r gs (all_made pieces y)
   pub quiet : IsQuiet (all_made pieces y)
+  pub fair : (v : ℕ) → AllFair v pieces
 
 pub signal_pieces : (s x y new : State) (t : ℕ) (a : Act) (r : Reply) (gs : List Grant) → signals_one a ≡ true → IsFrom s t (Call.Act a) x → IsQuiet y → AlikeFor s t (Call.Act a) x y → Step x t (Call.Act a) r gs new → IsPieced s x y new t a r gs
 signal_pieces s x y new t a r gs kind from quiet alike step =
@@ -135,6 +141,7 @@ signal_pieces s x y new t a r gs kind from quiet alike step =
       state = whole_is x new t a r gs one;
       step = make_signal y (all_made ps y) t a r gs kind go.1;
       quiet = record { served = go.2; calm = λ v alerted. quiet.calm v (alerted_before ps y v alerted) };
+      fair = λ v. whole_fair v a own (ends_fair v (sequence x one.numbers) (at x h (signaling a)) one.calm one.served one.grants);
     }
 
 pub signal_made : (s x y new : State) (t : ℕ) (a : Act) (r : Reply) (gs : List Grant) → signals_one a ≡ true → IsFrom s t (Call.Act a) x → IsQuiet y → AlikeFor s t (Call.Act a) x y → Step x t (Call.Act a) r gs new → IsMade s x y new t (Call.Act a) r gs
@@ -152,6 +159,7 @@ signal_made s x y new t a r gs kind from quiet alike step =
       threads = λ v m. inl (kind, on_waiting s h ps v one.are m);
       idle = λ v m. inr (ap (λ (z : State). pends z v) (sym same) ∙ left_idle ps y v m);
       keeps = pieces_keep s ps;
+      strange = λ v differs idle. pieces_strange s h ps v one.are (one.fair v) idle;
     }
 
 -- ---- APCs
@@ -185,6 +193,10 @@ moves_them (u ∷ us) v (inr (inr later)) = contains_later u us v (moves_them us
 rousing_keeps : (s : State) (us : List ℕ) → AllKeep s (rousing us)
 rousing_keeps s [] = tt
 rousing_keeps s (u ∷ us) = (tt, (tt, rousing_keeps s us))
+
+rousing_strange : (v : ℕ) (us : List ℕ) → AllStrange v (rousing us)
+rousing_strange v [] = tt
+rousing_strange v (u ∷ us) = (tt, (tt, rousing_strange v us))
 
 over_idle : (x : State) (us : List ℕ) (v : ℕ) → Contains us v → pends (waits_over x us true) v ≡ false
 over_idle x us v m = go (get (waits_over x us true).waits v) refl
@@ -235,6 +247,7 @@ apc_made_so s x y new t k routine arg r gs from quiet alike step =
       threads = λ v m. inr (inl (refl, elim m [ inl e ↦ sym e | inr later ↦ only v (rouses_them s us v later) ]));
       idle = λ v m. elim m [ inl none ↦ absurd none | inr later ↦ inr (ap (λ (z : State). pends z v) (sym same) ∙ over_idle (with_apc y k q) us v (moves_them us v later)) ];
       keeps = (tt, rousing_keeps s us);
+      strange = λ v differs idle. (tt, rousing_strange v us);
     }
 
 pub apc_made : (s x y new : State) (t : ℕ) (a : Act) (r : Reply) (gs : List Grant) → queues_one a ≡ true → IsFrom s t (Call.Act a) x → IsQuiet y → AlikeFor s t (Call.Act a) x y → Step x t (Call.Act a) r gs new → IsMade s x y new t (Call.Act a) r gs
@@ -273,6 +286,7 @@ timer_made s x y new t a r gs kind from quiet alike step =
       threads = λ v m. inr (inr (inl (kind, elim m [ inl none ↦ absurd none | inr here ↦ elim here [ inl e ↦ e | inr never ↦ absurd never ] ])));
       idle = λ v m. elim m [ inl none ↦ absurd none | inr here ↦ elim here [ inl never ↦ absurd never | inr never ↦ absurd never ] ];
       keeps = (tt, (tt, tt));
+      strange = λ v differs idle. (setting_strange s.now t a v differs, (tt, tt));
     }
 
 -- ---- handles
@@ -291,6 +305,7 @@ close_made_so s x y new t h r gs quiet_x quiet step =
       threads = λ v m. elim m [ inl none ↦ absurd none | inr none ↦ absurd none ];
       idle = λ v m. elim m [ inl none ↦ absurd none | inr none ↦ absurd none ];
       keeps = (tt, tt);
+      strange = λ v differs idle. (tt, tt);
     }
 
 closed_of : (a : Act) → closes_one a ≡ true → (h : ℕ) × (a ≡ Act.Close h)
@@ -302,118 +317,4 @@ close_made s x y new t a r gs kind quiet_x quiet step =
     let is = closed_of a kind in
     subst (λ (c : Act). Step x t (Call.Act c) r gs new → IsMade s x y new t (Call.Act c) r gs) (sym is.1)
     (λ p. close_made_so s x y new t is.0 r gs quiet_x quiet p)
-    step
-
--- ---- APCs that their thread takes
-
-fewer_left : (qs : List (List Queued)) (t u : ℕ) → has_apc (oldest_taken qs t) u ≡ true → has_apc qs u ≡ true
-fewer_left [] t u e = e
-fewer_left ([] ∷ qs) zero zero e = e
-fewer_left ((q ∷ l) ∷ qs) zero zero e = refl
-fewer_left (l ∷ qs) zero (suc u) e = e
-fewer_left (l ∷ qs) (suc t) zero e = e
-fewer_left (l ∷ qs) (suc t) (suc u) e = fewer_left qs t u e
-
-rest_from : (h : ℕ) (l : List Queued) → has_from h (without_oldest l) ≡ true → has_from h l ≡ true
-rest_from h [] e = e
-rest_from h (q ∷ l) e = go (is_from h q.timer)
-  where
-    go : (b : Bool) → (b || has_from h l) ≡ true
-    go true = refl
-    go false = e
-
--- whether and what it takes, by what the queue has
-abbrev took : State → ℕ → Bool → State
-took s t b = if b then record s { apcs = oldest_taken s.apcs t } else with_handing s t false
-
-abbrev found : Bool → List Queued → Reply
-found b l = Reply.Apc (if b then apc_in (oldest l) else None)
-
-calm_left : (z : State) (t u : ℕ) → ((v : ℕ) → IsAlerted z v → ⊥) → IsAlerted (record z { apcs = oldest_taken z.apcs t }) u → ⊥
-calm_left z t u calm alerted = calm u (alerted.0, alerted.1, both_true alerted.0.alertable (has_apc (oldest_taken z.apcs t) u) (has_apc z.apcs u) (fewer_left z.apcs t u) alerted.2)
-
-quiet_took : (z : State) (t : ℕ) (b : Bool) → IsQuiet z → IsQuiet (took z t b)
-quiet_took z t true quiet = record { served = quiet.served; calm = λ u alerted. calm_left z t u quiet.calm alerted }
-quiet_took z t false quiet = record { served = quiet.served; calm = quiet.calm }
-
-same_took : (z : State) (t : ℕ) (b : Bool) → (took z t b).objects ≡ z.objects
-same_took z t true = refl
-same_took z t false = refl
-
-abbrev taking : ℕ → Bool → List Queued → List Part
-taking t true l = Drops t (without_oldest l) ∷ []
-taking t false l = Hands t false ∷ []
-
-taking_is : (z : State) (t : ℕ) (b : Bool) → took z t b ≡ all_done (taking t b (apc_queue_of z.apcs t)) z
-taking_is z t true = refl
-taking_is z t false = refl
-
-taking_no_object : (t : ℕ) (b : Bool) (l : List Queued) (o : ℕ) → SomeOnObject (taking t b l) o → ⊥
-taking_no_object t true l o (inl none) = none
-taking_no_object t true l o (inr none) = none
-taking_no_object t false l o (inl none) = none
-taking_no_object t false l o (inr none) = none
-
-taking_own : (s : State) (t : ℕ) (b : Bool) (l : List Queued) (v : ℕ) → SomeOnThread s (taking t b l) v → v ≡ t
-taking_own s t true l v (inl e) = sym e
-taking_own s t true l v (inr none) = absurd none
-taking_own s t false l v (inl e) = sym e
-taking_own s t false l v (inr none) = absurd none
-
-taking_moves_none : (t : ℕ) (b : Bool) (l : List Queued) (v : ℕ) → SomeMoves (taking t b l) v → ⊥
-taking_moves_none t true l v (inl none) = none
-taking_moves_none t true l v (inr none) = none
-taking_moves_none t false l v (inl none) = none
-taking_moves_none t false l v (inr none) = none
-
-taking_keeps : (s : State) (t : ℕ) (b : Bool) (l : List Queued) → l ≡ apc_queue_of s.apcs t → AllKeep s (taking t b l)
-taking_keeps s t true l is = (λ h e. ap (λ (k : List Queued). has_from h k) (sym is) ∙ rest_from h l e, tt)
-taking_keeps s t false l is = (tt, tt)
-
-next_made_so : (s x y new : State) (t : ℕ) (r : Reply) (gs : List Grant) → IsFrom s t (Call.Act Act.NextApc) x → IsQuiet y → AlikeFor s t (Call.Act Act.NextApc) x y → Step x t (Call.Act Act.NextApc) r gs new → IsMade s x y new t (Call.Act Act.NextApc) r gs
-next_made_so s x y new t r gs from quiet alike step =
-    let here : TouchesThread s t (Call.Act Act.NextApc) t = inr (inr (inr (inl (refl, refl)))) in
-    let b : Bool = may_take x t in
-    let l : List Queued = apc_queue_of x.apcs t in
-    let queue : apc_queue_of y.apcs t ≡ l = alike.apcs t here in
-    let may : may_take y t ≡ b =
-    ap (λ (h : Bool). h && has_apc y.apcs t) (alike.hands t here) ∙ ap (λ (k : List Queued). slice_index_or x.handing t false && list_any (λ _. true) k) queue in
-    let one = quiet_step x new (took x t b) t Act.NextApc r gs (record { changes = refl; settles = λ v. refl; served = (quiet_took x t b from.quiet).served; calm = (quiet_took x t b from.quiet).calm }) step in
-    let z : State = took y t b in
-    let to : IsQuietTo y z t Act.NextApc = record {
-      changes = ap (λ (c : Bool). took y t c) may;
-      settles = λ v. refl;
-      served = (quiet_took y t b quiet).served;
-      calm = (quiet_took y t b quiet).calm;
-    } in
-    let second : IsQuietStep y z z t Act.NextApc r gs = record {
-      numbers = [];
-      changed = subst (λ (os : List Object). AreRising (IsChanged y.objects os) []) (sym (same_took y t b)) (none_changed y.objects);
-      grants = one.grants;
-      state = refl;
-      reply = one.reply ∙ (ap (λ (c : Bool). found c l) (sym may) ∙ ap (λ (k : List Queued). found (may_take y t) k) (sym queue));
-    } in
-    let ps : List Part = taking t b l in
-    let leads : z ≡ all_done ps y = taking_is y t b ∙ ap (λ (k : List Queued). all_done (taking t b k) y) queue in
-    record {
-      parts = ps;
-      state = one.state ∙ taking_is x t b;
-      step = subst (λ (n : State). Step y t (Call.Act Act.NextApc) r gs n) leads (make_quiet y z z t Act.NextApc r gs to second);
-      quiet = subst IsQuiet leads (quiet_took y t b quiet);
-      objects = λ o m. absurd (taking_no_object t b l o m);
-      threads = λ v m. inr (inr (inr (inl (refl, taking_own s t b l v m))));
-      idle = λ v m. absurd (taking_moves_none t b l v m);
-      keeps = taking_keeps s t b l (from.apcs t here);
-    }
-
-next_of : (a : Act) → takes_apc a ≡ true → a ≡ Act.NextApc
-next_of Act.NextApc kind = refl
-next_of _ kind = (cc)
-
-pub next_made : (s x y new : State) (t : ℕ) (a : Act) (r : Reply) (gs : List Grant) → takes_apc a ≡ true → IsFrom s t (Call.Act a) x → IsQuiet y → AlikeFor s t (Call.Act a) x y → Step x t (Call.Act a) r gs new → IsMade s x y new t (Call.Act a) r gs
-next_made s x y new t a r gs kind from quiet alike step =
-    subst (λ (c : Act). IsFrom s t (Call.Act c) x → AlikeFor s t (Call.Act c) x y → Step x t (Call.Act c) r gs new → IsMade s x y new t (Call.Act c) r gs) (sym (next_of a kind))
-    (λ f k p. next_made_so s x y new t r gs f quiet k p)
-    from
-    alike
     step

@@ -1,5 +1,5 @@
 -- A wait that begins is made of parts that touch its objects and its thread alone, and of the same parts in a state that is alike.
-use Rattle.std.proofs.Common.{◌≡◌, inl, inr, ℕ, Bool, true, false, ◌&&◌, List, [], ◌∷◌, refl, sym, ap, ◌∙◌, subst, Contains}
+use Rattle.std.proofs.Common.{◌≡◌, ◌≢◌, inl, inr, ℕ, Bool, true, false, ◌&&◌, List, [], ◌∷◌, refl, sym, ap, ◌∙◌, subst, Contains}
 use Rattle.std.specs.Prelude.{◌==◌}
 use Rattle.std.specs.List.{list_any}
 use Rattle.nt_objects.specs.declared.object.Object.{Object}
@@ -17,7 +17,7 @@ use Rattle.nt_apart.specs.Apart.{only_waits, IsQuiet}
 use Rattle.nt_apart.proofs.Waits.{How, Takes, Rouses, TimesOut, Pends, how as how_by, how_of, came, answer, effect, begun_is, takes_if, takes_is, picked, picked_named, picked_agree, fits_agree, status_agree}
 use Rattle.nt_apart.proofs.Waiting.{wait_step, make_wait, quiet_begun}
 use Rattle.nt_apart.proofs.Reach.{is_named}
-use Rattle.nt_apart.proofs.Parts.{Part, Gets, Hands, Joins, AllKeep, all_done, SomeOnObject, SomeOnThread, SomeMoves}
+use Rattle.nt_apart.proofs.Parts.{Part, Gets, Hands, Joins, AllKeep, AllStrange, all_done, SomeOnObject, SomeOnThread, SomeMoves}
 use Rattle.nt_apart.proofs.PartsOfCalls.{IsFrom, AlikeFor, IsMade}
 
 -- how the wait begins, in parts
@@ -76,6 +76,12 @@ waits_keep s Rouses hs t w = (tt, tt)
 waits_keep s TimesOut hs t w = (tt, tt)
 waits_keep s Pends hs t w = (tt, tt)
 
+waits_strange : (v : ℕ) (h : How) (hs : List ℕ) (t : ℕ) (w : Wait) → v ≢ t → AllStrange v (parts_by h hs t w)
+waits_strange v Takes hs t w differs = (differs, (tt, tt))
+waits_strange v Rouses hs t w differs = (tt, tt)
+waits_strange v TimesOut hs t w differs = (tt, tt)
+waits_strange v Pends hs t w differs = (tt, tt)
+
 pub wait_made : (s x y new : State) (t : ℕ) (wait : WaitCall) (r : Reply) (gs : List Grant) → only_waits wait ≡ true → IsFrom s t (Call.Wait wait) x → IsQuiet y → pends y t ≡ false → AlikeFor s t (Call.Wait wait) x y → Step x t (Call.Wait wait) r gs new → IsMade s x y new t (Call.Wait wait) r gs
 wait_made s x y new t wait r gs only from quiet idle alike step =
     let w : Wait = asked_wait s.now wait in
@@ -116,4 +122,5 @@ wait_made s x y new t wait r gs only from quiet idle alike step =
       threads = λ v m. inl (parts_of_thread s how hs t w v m);
       idle = λ v m. inl (subst (λ (i : ℕ). pends y i ≡ false) (moves_caller how hs t w v m) idle);
       keeps = waits_keep s how hs t w;
+      strange = λ v differs idle_v. waits_strange v how hs t w differs;
     }

@@ -31,6 +31,19 @@ abbrev pub AreOf : State → ℕ → List Piece → Type 0
 AreOf s h [] = Unit {0}
 AreOf s h (p ∷ ps) = IsOf s h p × AreOf s h ps
 
+-- the wait names some of these objects
+abbrev pub names_some : (ℕ → Bool) → Wait → Bool
+names_some H w = list_any H w.objects
+
+-- each piece ends a wait that pends in s and names some of them, and which names all that it takes
+abbrev pub IsEnd : State → (ℕ → Bool) → Piece → Type 0
+IsEnd s H (Alters k f) = ⊥
+IsEnd s H (Ends t hs) = (w : Wait) × (get s.waits t ≡ Some w) × (names_some H w ≡ true) × ((o : ℕ) → Contains hs o → wait_names w o ≡ true)
+
+abbrev pub AreEnds : State → (ℕ → Bool) → List Piece → Type 0
+AreEnds s H [] = Unit {0}
+AreEnds s H (p ∷ ps) = IsEnd s H p × AreEnds s H ps
+
 pub are_append : (s : State) (h : ℕ) (ps qs : List Piece) → AreOf s h ps → AreOf s h qs → AreOf s h (ps ++ qs)
 are_append s h [] qs are more = more
 are_append s h (p ∷ ps) qs are more = (are.0, are_append s h ps qs are.1 more)
@@ -129,19 +142,19 @@ each_agree ps os t (h ∷ hs) o long agree here =
     (λ x m. change_agree ps os h x (λ v. taken v t) long first (agree x (contains_later h hs x m)))
     (change_agree ps os h o (λ v. taken v t) long first here)
 
--- ---- two states in which the same waits for h pend, and find the same
+-- ---- two states in which the same waits for some objects pend, and find the same
 
-pub record IsBeside (h : ℕ) (x y : State) : Type 0 where
+pub record IsBesideAll (H : ℕ → Bool) (x y : State) : Type 0 where
   pub long : length y.objects ≡ length x.objects
-  pub there : (t : ℕ) (w : Wait) → get x.waits t ≡ Some w → wait_names w h ≡ true → get y.waits t ≡ Some w
-  pub back : (t : ℕ) (w : Wait) → get y.waits t ≡ Some w → wait_names w h ≡ true → get x.waits t ≡ Some w
-  pub agree : (t : ℕ) (w : Wait) → get x.waits t ≡ Some w → wait_names w h ≡ true → (o : ℕ) → Contains w.objects o → object_at y.objects o ≡ object_at x.objects o
+  pub there : (t : ℕ) (w : Wait) → get x.waits t ≡ Some w → names_some H w ≡ true → get y.waits t ≡ Some w
+  pub back : (t : ℕ) (w : Wait) → get y.waits t ≡ Some w → names_some H w ≡ true → get x.waits t ≡ Some w
+  pub agree : (t : ℕ) (w : Wait) → get x.waits t ≡ Some w → names_some H w ≡ true → (o : ℕ) → Contains w.objects o → object_at y.objects o ≡ object_at x.objects o
   -- no other wait fits
-  pub only : (t : ℕ) (w : Wait) → get x.waits t ≡ Some w → wait_names w h ≡ false → fits x.objects t w ≡ false
-  pub only_too : (t : ℕ) (w : Wait) → get y.waits t ≡ Some w → wait_names w h ≡ false → fits y.objects t w ≡ false
+  pub only : (t : ℕ) (w : Wait) → get x.waits t ≡ Some w → names_some H w ≡ false → fits x.objects t w ≡ false
+  pub only_too : (t : ℕ) (w : Wait) → get y.waits t ≡ Some w → names_some H w ≡ false → fits y.objects t w ≡ false
 
-pub beside_back : (h : ℕ) (x y : State) → IsBeside h x y → IsBeside h y x
-beside_back h x y beside = record {
+pub back_all : (H : ℕ → Bool) (x y : State) → IsBesideAll H x y → IsBesideAll H y x
+back_all H x y beside = record {
   long = sym beside.long;
   there = beside.back;
   back = beside.there;
@@ -150,8 +163,8 @@ beside_back h x y beside = record {
   only_too = beside.only;
 }
 
-pub beside_itself : (h : ℕ) (x : State) → ((t : ℕ) (w : Wait) → get x.waits t ≡ Some w → wait_names w h ≡ false → fits x.objects t w ≡ false) → IsBeside h x x
-beside_itself h x only = record {
+pub itself_all : (H : ℕ → Bool) (x : State) → ((t : ℕ) (w : Wait) → get x.waits t ≡ Some w → names_some H w ≡ false → fits x.objects t w ≡ false) → IsBesideAll H x x
+itself_all H x only = record {
   long = refl;
   there = λ t w e n. e;
   back = λ t w e n. e;
@@ -161,17 +174,17 @@ beside_itself h x only = record {
 }
 
 -- a wait that pends in one alone fits not
-lone : (h : ℕ) (x y : State) (t : ℕ) (w : Wait) → IsBeside h x y → get x.waits t ≡ Some w → get y.waits t ≡ None → fits x.objects t w ≡ false
-lone h x y t w beside e none = go (wait_names w h) refl
+lone : (H : ℕ → Bool) (x y : State) (t : ℕ) (w : Wait) → IsBesideAll H x y → get x.waits t ≡ Some w → get y.waits t ≡ None → fits x.objects t w ≡ false
+lone H x y t w beside e none = go (names_some H w) refl
   where
-    go : (b : Bool) → wait_names w h ≡ b → fits x.objects t w ≡ false
+    go : (b : Bool) → names_some H w ≡ b → fits x.objects t w ≡ false
     go true n = let clash : None ≡ Some w = sym none ∙ beside.there t w e n in (cc)
     go false n = beside.only t w e n
 
-both_pend : (h : ℕ) (x y : State) (t : ℕ) (w v : Wait) → IsBeside h x y → get x.waits t ≡ Some w → get y.waits t ≡ Some v → fits y.objects t v ≡ fits x.objects t w
-both_pend h x y t w v beside e e' = go (wait_names w h) refl (wait_names v h) refl
+both_pend : (H : ℕ → Bool) (x y : State) (t : ℕ) (w v : Wait) → IsBesideAll H x y → get x.waits t ≡ Some w → get y.waits t ≡ Some v → fits y.objects t v ≡ fits x.objects t w
+both_pend H x y t w v beside e e' = go (names_some H w) refl (names_some H v) refl
   where
-    go : (a : Bool) → wait_names w h ≡ a → (b : Bool) → wait_names v h ≡ b → fits y.objects t v ≡ fits x.objects t w
+    go : (a : Bool) → names_some H w ≡ a → (b : Bool) → names_some H v ≡ b → fits y.objects t v ≡ fits x.objects t w
     go true n b n' =
         let both : Some v ≡ Some w = sym e' ∙ beside.there t w e n in
         let one : v ≡ w = cc in
@@ -179,22 +192,22 @@ both_pend h x y t w v beside e e' = go (wait_names w h) refl (wait_names v h) re
     go false n true n' =
         let both : Some w ≡ Some v = sym e ∙ beside.back t v e' n' in
         let one : w ≡ v = cc in
-        let clash : true ≡ false = sym n' ∙ (ap (λ (z : Wait). wait_names z h) (sym one) ∙ n) in
+        let clash : true ≡ false = sym n' ∙ (ap (λ (z : Wait). names_some H z) (sym one) ∙ n) in
         (cc)
     go false n false n' = beside.only_too t v e' n' ∙ sym (beside.only t w e n)
 
-pub due_beside : (h : ℕ) (x y : State) → IsBeside h x y → (t : ℕ) → is_due y t ≡ is_due x t
-due_beside h x y beside t = go (get x.waits t) refl (get y.waits t) refl
+pub due_all : (H : ℕ → Bool) (x y : State) → IsBesideAll H x y → (t : ℕ) → is_due y t ≡ is_due x t
+due_all H x y beside t = go (get x.waits t) refl (get y.waits t) refl
   where
     go : (o : Option Wait) → get x.waits t ≡ o → (o' : Option Wait) → get y.waits t ≡ o' → satisfied y.objects t o' ≡ satisfied x.objects t o
     go None e None e' = refl
-    go None e (Some v) e' = lone h y x t v (beside_back h x y beside) e' e
-    go (Some w) e None e' = sym (lone h x y t w beside e e')
-    go (Some w) e (Some v) e' = both_pend h x y t w v beside e e'
+    go None e (Some v) e' = lone H y x t v (back_all H x y beside) e' e
+    go (Some w) e None e' = sym (lone H x y t w beside e e')
+    go (Some w) e (Some v) e' = both_pend H x y t w v beside e e'
 
 -- they are so after a wait ended in both that takes objects on which they agree
-beside_after : (h : ℕ) (x y : State) (t : ℕ) (hs : List ℕ) → IsBeside h x y → ((o : ℕ) → Contains hs o → object_at y.objects o ≡ object_at x.objects o) → IsBeside h (made (Ends t hs) x) (made (Ends t hs) y)
-beside_after h x y t hs beside agree = record {
+after_all : (H : ℕ → Bool) (x y : State) (t : ℕ) (hs : List ℕ) → IsBesideAll H x y → ((o : ℕ) → Contains hs o → object_at y.objects o ≡ object_at x.objects o) → IsBesideAll H (made (Ends t hs) x) (made (Ends t hs) y)
+after_all H x y t hs beside agree = record {
   long = long_each y.objects t hs ∙ (beside.long ∙ sym (long_each x.objects t hs));
   there = λ u v e n. let r = get_removed x.waits t u v e in get_other y.waits t u r.0 ∙ beside.there u v r.1 n;
   back = λ u v e n. let r = get_removed y.waits t u v e in get_other x.waits t u r.0 ∙ beside.back u v r.1 n;
@@ -224,39 +237,39 @@ source_is threads x y (g ∷ gs) grants =
 abbrev pub AlikeInBoth : List ℕ → List ℕ → State → State → Type 0
 AlikeInBoth ts us x y = (p : ℕ → Bool) → ((u : ℕ) → pends x u ≡ false → p u ≡ false) → ((u : ℕ) → pends y u ≡ false → p u ≡ false) → find p us ≡ find p ts
 
-pub record AreGrantedBeside (s : State) (h : ℕ) (us : List ℕ) (y z : State) (gs : List Grant) (ps : List Piece) : Type 0 where
-  pub are : AreOf s h ps
+pub record AreGrantedAll (s : State) (H : ℕ → Bool) (us : List ℕ) (y z : State) (gs : List Grant) (ps : List Piece) : Type 0 where
+  pub are : AreEnds s H ps
   pub grants : Grants us y gs (all_made ps y)
-  pub beside : IsBeside h z (all_made ps y)
+  pub beside : IsBesideAll H z (all_made ps y)
 
-due_names : (h : ℕ) (x y : State) (g : Grant) (w : Wait) → IsBeside h x y → IsDue x g w → wait_names w h ≡ true
-due_names h x y g w beside due = go (wait_names w h) refl
+due_names : (H : ℕ → Bool) (x y : State) (g : Grant) (w : Wait) → IsBesideAll H x y → IsDue x g w → names_some H w ≡ true
+due_names H x y g w beside due = go (names_some H w) refl
   where
-    go : (b : Bool) → wait_names w h ≡ b → b ≡ true
+    go : (b : Bool) → names_some H w ≡ b → b ≡ true
     go true n = refl
     go false n = let clash : true ≡ false = sym due.fits ∙ beside.only g.thread w due.pends n in (cc)
 
-pub granted_beside : (s : State) (h : ℕ) (ts us : List ℕ) (x y z : State) (gs : List Grant) → ((t : ℕ) (w : Wait) → get x.waits t ≡ Some w → get s.waits t ≡ Some w) → AlikeInBoth ts us x y → IsBeside h x y → (grants : Grants ts x gs z) → AreGrantedBeside s h us y z gs (pieces_of ts x z gs grants)
-granted_beside s h ts us x y z [] below alike beside grants = record { are = tt; grants = refl; beside = subst (λ (v : State). IsBeside h v y) (sym grants) beside }
-granted_beside s h ts us x y z (g ∷ gs) below alike beside grants =
+pub granted_all : (s : State) (H : ℕ → Bool) (ts us : List ℕ) (x y z : State) (gs : List Grant) → ((t : ℕ) (w : Wait) → get x.waits t ≡ Some w → get s.waits t ≡ Some w) → AlikeInBoth ts us x y → IsBesideAll H x y → (grants : Grants ts x gs z) → AreGrantedAll s H us y z gs (pieces_of ts x z gs grants)
+granted_all s H ts us x y z [] below alike beside grants = record { are = tt; grants = refl; beside = subst (λ (v : State). IsBesideAll H v y) (sym grants) beside }
+granted_all s H ts us x y z (g ∷ gs) below alike beside grants =
     let t = g.thread in
     let w : Wait = grants.1 in
     let due : IsDue x g w = grants.2 in
-    let names : wait_names w h ≡ true = due_names h x y g w beside due in
+    let names : names_some H w ≡ true = due_names H x y g w beside due in
     let agree : (o : ℕ) → Contains w.objects o → object_at y.objects o ≡ object_at x.objects o = beside.agree t w due.pends names in
     let hs : List ℕ = picked x.objects t w in
     let named : (o : ℕ) → Contains hs o → Contains w.objects o = picked_named x.objects t w due.fits in
     let one : wait_granted x t w ≡ made (Ends t hs) x = granted_is x t w in
     let two : wait_granted y t w ≡ made (Ends t hs) y = granted_is y t w ∙ ap (λ (ks : List ℕ). made (Ends t ks) y) (picked_agree y.objects x.objects t w agree) in
-    let after : IsBeside h (made (Ends t hs) x) (made (Ends t hs) y) = beside_after h x y t hs beside (λ o m. agree o (named o m)) in
-    let rest = granted_beside s h ts us (wait_granted x t w) (made (Ends t hs) y) z gs
+    let after : IsBesideAll H (made (Ends t hs) x) (made (Ends t hs) y) = after_all H x y t hs beside (λ o m. agree o (named o m)) in
+    let rest = granted_all s H ts us (wait_granted x t w) (made (Ends t hs) y) z gs
     (λ u v e. below u v (get_removed x.waits t u v e).1)
     (λ p ix iy. alike p (λ u e. ix u (idle_made (Ends t hs) x u e)) (λ u e. iy u (idle_made (Ends t hs) y u e)))
-    (subst (λ (v : State). IsBeside h v (made (Ends t hs) y)) (sym one) after)
+    (subst (λ (v : State). IsBesideAll H v (made (Ends t hs) y)) (sym one) after)
     grants.3 in
     let first : find (is_due y) us ≡ Some t =
-    find_same (is_due y) (is_due x) us (due_beside h x y beside)
-    ∙ (alike (is_due x) (λ u e. undue_idle x u e) (λ u e. sym (due_beside h x y beside u) ∙ undue_idle y u e) ∙ grants.0) in
+    find_same (is_due y) (is_due x) us (due_all H x y beside)
+    ∙ (alike (is_due x) (λ u e. undue_idle x u e) (λ u e. sym (due_all H x y beside u) ∙ undue_idle y u e) ∙ grants.0) in
     record {
       are = ((w, below t w due.pends, names, λ o m. is_named o w.objects (named o m)), rest.are);
       grants = (
@@ -268,9 +281,37 @@ granted_beside s h ts us x y z (g ∷ gs) below alike beside grants =
       beside = rest.beside;
     }
 
+-- the same of the waits for one object
+abbrev pub IsBeside : ℕ → State → State → Type 0
+IsBeside h x y = IsBesideAll (λ n. n == h) x y
+
+pub beside_back : (h : ℕ) (x y : State) → IsBeside h x y → IsBeside h y x
+beside_back h x y beside = back_all (λ n. n == h) x y beside
+
+pub beside_itself : (h : ℕ) (x : State) → ((t : ℕ) (w : Wait) → get x.waits t ≡ Some w → wait_names w h ≡ false → fits x.objects t w ≡ false) → IsBeside h x x
+beside_itself h x only = itself_all (λ n. n == h) x only
+
+pub due_beside : (h : ℕ) (x y : State) → IsBeside h x y → (t : ℕ) → is_due y t ≡ is_due x t
+due_beside h x y beside t = due_all (λ n. n == h) x y beside t
+
+pub record AreGrantedBeside (s : State) (h : ℕ) (us : List ℕ) (y z : State) (gs : List Grant) (ps : List Piece) : Type 0 where
+  pub are : AreOf s h ps
+  pub grants : Grants us y gs (all_made ps y)
+  pub beside : IsBeside h z (all_made ps y)
+
+as_one : (s : State) (h : ℕ) (ps : List Piece) → AreEnds s (λ n. n == h) ps → AreOf s h ps
+as_one s h [] are = tt
+as_one s h (Alters k f ∷ ps) are = absurd are.0
+as_one s h (Ends t hs ∷ ps) are = (are.0, as_one s h ps are.1)
+
+pub granted_beside : (s : State) (h : ℕ) (ts us : List ℕ) (x y z : State) (gs : List Grant) → ((t : ℕ) (w : Wait) → get x.waits t ≡ Some w → get s.waits t ≡ Some w) → AlikeInBoth ts us x y → IsBeside h x y → (grants : Grants ts x gs z) → AreGrantedBeside s h us y z gs (pieces_of ts x z gs grants)
+granted_beside s h ts us x y z gs below alike beside grants =
+    let all = granted_all s (λ n. n == h) ts us x y z gs below alike beside grants in
+    record { are = as_one s h (pieces_of ts x z gs grants) all.are; grants = all.grants; beside = all.beside }
+
 -- ---- where both begin
 
-undue_wait : (s : State) (t : ℕ) (w : Wait) → IsServed s → get s.waits t ≡ Some w → fits s.objects t w ≡ false
+pub undue_wait : (s : State) (t : ℕ) (w : Wait) → IsServed s → get s.waits t ≡ Some w → fits s.objects t w ≡ false
 undue_wait s t w served e = sym (ap (satisfied s.objects t) e) ∙ served t
 
 pub only_one : (s : State) (h : ℕ) (f : Object → Object) → IsServed s → (t : ℕ) (w : Wait) → get s.waits t ≡ Some w → wait_names w h ≡ false → fits (with_object s.objects h f) t w ≡ false

@@ -1,5 +1,5 @@
 -- SignalObjectAndWait is made of the pieces of a signal, and then of the parts of a wait.
-use Rattle.std.proofs.Common.{◌≡◌, ◌≢◌, ◌⊎◌, inl, inr, ℕ, Bool, true, false, List, [], ◌∷◌, ◌++◌, length, refl, sym, ap, ◌∙◌, subst, Option, Some, None, is_some, Contains, pos}
+use Rattle.std.proofs.Common.{◌≡◌, ◌⊎◌, inl, inr, ℕ, Bool, true, false, List, [], ◌∷◌, ◌++◌, length, refl, sym, ap, ◌∙◌, subst, Option, Some, None, is_some, pos}
 use Rattle.std.specs.Prelude.{slice_set, slice_index_or}
 use Rattle.std.specs.FinMap.{get}
 use Rattle.std.proofs.lemmas.List.{length-set, get_or-set_other}
@@ -23,14 +23,14 @@ use Rattle.nt_apart.specs.Apart.{IsQuiet}
 use Rattle.nt_apart.specs.Reach.{signals_one, signaled_one, IsInReach}
 use Rattle.nt_apart.specs.Apcs.{queues_one}
 use Rattle.nt_apart.specs.Timers.{times_one}
-use Rattle.nt_apart.specs.Footprint.{takes_apc, fires_one, SignalsFirst, WaitsFor, TouchesObject, TouchesThread}
+use Rattle.nt_apart.specs.Footprint.{takes_apc, fires_one, WaitsFor, TouchesObject, TouchesThread}
 use Rattle.nt_apart.proofs.Waiting.{wait_step, make_wait}
 use Rattle.nt_apart.proofs.Pieces.{Piece, Alters, Ends, made, all_made, long_each, long_along, idle_along, queue_along, find_flat}
 use Rattle.nt_apart.proofs.Reach.{AreOf, change_agree, each_agree}
 use Rattle.nt_apart.proofs.Signals.{signaling}
-use Rattle.nt_apart.proofs.Parts.{Part, Changes, Gets, Hands, Leaves, Joins, Posts, Withdraws, Drops, Closes, AllKeep, done, all_done, SomeOnObject, SomeOnThread, SomeMoves, in_parts, in_parts_is, pieces_keep}
-use Rattle.nt_apart.proofs.Alike.{Alike, alike_itself, wait_along}
-use Rattle.nt_apart.proofs.PartsOfCalls.{MayEnd, AlikeFor, IsFrom, IsMade, IsPieced, signal_pieces, on_reached, on_waiting, left_idle}
+use Rattle.nt_apart.proofs.Parts.{Part, Changes, Gets, Hands, Leaves, Joins, Posts, Withdraws, Drops, Closes, AllKeep, AllStrange, done, all_done, SomeOnObject, SomeOnThread, SomeMoves, in_parts, in_parts_is, pieces_keep}
+use Rattle.nt_apart.proofs.Alike.{Alike, alike_itself, wait_along, not_idle, pieces_strange}
+use Rattle.nt_apart.proofs.PartsOfCalls.{MayEnd, Exits, AlikeFor, IsFrom, IsMade, signal_pieces, on_reached, on_waiting, left_idle}
 use Rattle.nt_apart.proofs.PartsOfWaits.{wait_made}
 
 -- ---- the act that signals as the wait does
@@ -97,13 +97,13 @@ swap_step y mid last t h o mode r q gs a its one begins =
       answers = begins ∙ ap {B = Reply × State} (λ (z : State). begun z t (asked_wait z.now (WaitCall.Swap h o mode)) mode.ms) leads;
     }
 
-never : (b : Bool) {P : Type 0} → b ≡ false → b ≡ true → P
+pub never : (b : Bool) {P : Type 0} → b ≡ false → b ≡ true → P
 never b n y = let h : true ≡ false = sym y ∙ n in (cc)
 
-act_object : (s : State) (h : ℕ) (a : Act) (v : Object) (o : ℕ) → IsItsAct h v a → TouchesObject s (Call.Act a) o → IsInReach s h o
-act_object s h a v o its (inl m) = subst (λ (i : ℕ). IsInReach s i o) its.number m.1
-act_object s h a v o its (inr (inl m)) = never (times_one s.now a) (its.timeless s.now) m.0
-act_object s h a v o its (inr (inr m)) = never (fires_one s.now a) (its.fireless s.now) m.0
+act_object : (s : State) (t h : ℕ) (a : Act) (v : Object) (o : ℕ) → IsItsAct h v a → TouchesObject s t (Call.Act a) o → IsInReach s h o
+act_object s t h a v o its (inl m) = subst (λ (i : ℕ). IsInReach s i o) its.number m.1
+act_object s t h a v o its (inr (inl m)) = never (times_one s.now a) (its.timeless s.now) m.0
+act_object s t h a v o its (inr (inr m)) = never (fires_one s.now a) (its.fireless s.now) m.0
 
 act_thread : (s : State) (t h : ℕ) (a : Act) (v : Object) (u : ℕ) → IsItsAct h v a → TouchesThread s t (Call.Act a) u → WaitsFor s u h
 act_thread s t h a v u its (inl m) = subst (λ (i : ℕ). WaitsFor s u i) its.number m.1
@@ -112,21 +112,21 @@ act_thread s t h a v u its (inr (inr (inl m))) = never (times_one s.now a) (its.
 act_thread s t h a v u its (inr (inr (inr (inl m)))) = never (takes_apc a) its.taking m.0
 act_thread s t h a v u its (inr (inr (inr (inr m)))) = never (fires_one s.now a) (its.fireless s.now) m.0
 
-as_object : (s : State) (h o : ℕ) (mode : WaitMode) (i : ℕ) → TouchesObject s (Call.Wait (WaitCall.Objects false mode (o ∷ []))) i → TouchesObject s (Call.Wait (WaitCall.Swap h o mode)) i
-as_object s h o mode i (inl m) = inl m
-as_object s h o mode i (inr m) = absurd m.1
+as_object : (s : State) (t h o : ℕ) (mode : WaitMode) (i : ℕ) → TouchesObject s t (Call.Wait (WaitCall.Objects false mode (o ∷ []))) i → TouchesObject s t (Call.Wait (WaitCall.Swap h o mode)) i
+as_object s t h o mode i (inl m) = inl m
+as_object s t h o mode i (inr m) = absurd m.1
 
 is_caller : (s : State) (t o : ℕ) (mode : WaitMode) (v : ℕ) → TouchesThread s t (Call.Wait (WaitCall.Objects false mode (o ∷ []))) v → v ≡ t
 is_caller s t o mode v (inl e) = e
 is_caller s t o mode v (inr m) = absurd m.1
 
-act_ends : (now h : ℕ) (a : Act) (v : Object) (w : Wait) → IsItsAct h v a → MayEnd now (Call.Act a) w → wait_names w h ≡ true
-act_ends now h a v w its (inl may) = ap (λ (i : ℕ). wait_names w i) (sym its.number) ∙ may.1
-act_ends now h a v w its (inr may) = never (fires_one now a) (its.fireless now) may.0
+act_ends : (s : State) (t h : ℕ) (a : Act) (v : Object) (w : Wait) → IsItsAct h v a → MayEnd s t (Call.Act a) w → wait_names w h ≡ true
+act_ends s t h a v w its (inl may) = ap (λ (i : ℕ). wait_names w i) (sym its.number) ∙ may.1
+act_ends s t h a v w its (inr may) = never (fires_one s.now a) (its.fireless s.now) may.0
 
 -- what is alike for more is alike for less
-less_alike : (O O' T T' : ℕ → Type 0) (W W' : Wait → Type 0) (x y : State) → ((o : ℕ) → O' o → O o) → ((v : ℕ) → T' v → T v) → ((w : Wait) → W' w → W w) → Alike O T W x y → Alike O' T' W' x y
-less_alike O O' T T' W W' x y os ts ws alike = record {
+less_alike : (O O' T T' : ℕ → Type 0) (W W' : Wait → Type 0) (E E' : ℕ → Type 0) (x y : State) → ((o : ℕ) → O' o → O o) → ((v : ℕ) → T' v → T v) → ((w : Wait) → W' w → W w) → ((v : ℕ) → E' v → E v) → Alike O T W E x y → Alike O' T' W' E' x y
+less_alike O O' T T' W W' E E' x y os ts ws es alike = record {
   long = alike.long;
   now = alike.now;
   posts = alike.posts;
@@ -134,6 +134,7 @@ less_alike O O' T T' W W' x y os ts ws alike = record {
   waits = λ v m. alike.waits v (ts v m);
   apcs = λ v m. alike.apcs v (ts v m);
   hands = λ v m. alike.hands v (ts v m);
+  owned = λ v o m. alike.owned v o (es v m);
   there = λ v w may e. alike.there v w (ws w may) e;
   back = λ v w may e. alike.back v w (ws w may) e;
   queues = alike.queues;
@@ -150,9 +151,6 @@ apcs_made : (ps : List Piece) (x : State) → (all_made ps x).apcs ≡ x.apcs
 apcs_made [] x = refl
 apcs_made (Alters k f ∷ ps) x = apcs_made ps (at x k f)
 apcs_made (Ends u hs ∷ ps) x = apcs_made ps (made (Ends u hs) x)
-
-pub not_idle : (s : State) (t : ℕ) (w : Wait) {P : Type 0} → get s.waits t ≡ Some w → pends s t ≡ false → P
-not_idle s t w e idle = let h : true ≡ false = sym (ap is_some e) ∙ idle in (cc)
 
 hands_made : (s x : State) (h t : ℕ) (ps : List Piece) → AreOf s h ps → pends s t ≡ false → slice_index_or (all_made ps x).handing t false ≡ slice_index_or x.handing t false
 hands_made s x h t [] are idle = refl
@@ -202,6 +200,10 @@ moves_append [] qs v m = inr m
 moves_append (p ∷ ps) qs v (inl m) = inl (inl m)
 moves_append (p ∷ ps) qs v (inr m) = elim (moves_append ps qs v m) [ inl n ↦ inl (inr n) | inr n ↦ inr n ]
 
+pub strange_append : (v : ℕ) (ps qs : List Part) → AllStrange v ps → AllStrange v qs → AllStrange v (ps ++ qs)
+strange_append v [] qs one two = two
+strange_append v (p ∷ ps) qs one two = (one.0, strange_append v ps qs one.1 two)
+
 pub keep_append : (s : State) (ps qs : List Part) → AllKeep s ps → AllKeep s qs → AllKeep s (ps ++ qs)
 keep_append s [] qs kp kq = kq
 keep_append s (p ∷ ps) qs kp kq = (kp.0, keep_append s ps qs kp.1 kq)
@@ -234,14 +236,14 @@ swap_made s x y new t h o mode r gs from quiet idle_s idle_y alike step =
     let is : IsItsAct h (object_at x.objects h) a = its.1 in
     let own : signaled_one a ≡ h = is.number in
     -- what the act touches the wait touches
-    let on_object : (i : ℕ) → TouchesObject s (Call.Act a) i → TouchesObject s c i = λ i m. inr (h, refl, act_object s h a (object_at x.objects h) i is m) in
+    let on_object : (i : ℕ) → TouchesObject s t (Call.Act a) i → TouchesObject s t c i = λ i m. inr (h, refl, act_object s t h a (object_at x.objects h) i is m) in
     let on_thread : (v : ℕ) → TouchesThread s t (Call.Act a) v → TouchesThread s t c v = λ v m. inr (h, refl, act_thread s t h a (object_at x.objects h) v is m) in
-    let may_end : (w : Wait) → MayEnd s.now (Call.Act a) w → MayEnd s.now c w = λ w may. (h, refl, act_ends s.now h a (object_at x.objects h) w is may) in
-    let from_a : IsFrom s t (Call.Act a) x = record { quiet = from.quiet; now = from.now; known = λ v w may e. from.known v w (may_end w may) e; apcs = λ v m. from.apcs v (on_thread v m) } in
-    let alike_a : AlikeFor s t (Call.Act a) x y = less_alike (TouchesObject s c) (TouchesObject s (Call.Act a)) (TouchesThread s t c) (TouchesThread s t (Call.Act a)) (MayEnd s.now c) (MayEnd s.now (Call.Act a)) x y on_object on_thread may_end alike in
+    let may_end : (w : Wait) → MayEnd s t (Call.Act a) w → MayEnd s t c w = λ w may. (h, refl, act_ends s t h a (object_at x.objects h) w is may) in
+    let from_a : IsFrom s t (Call.Act a) x = record { quiet = from.quiet; now = from.now; known = λ v w may e. from.known v w (may_end w may) e; apcs = λ v m. from.apcs v (on_thread v m); owned = λ v i m. absurd m } in
+    let alike_a : AlikeFor s t (Call.Act a) x y = less_alike (TouchesObject s t c) (TouchesObject s t (Call.Act a)) (TouchesThread s t c) (TouchesThread s t (Call.Act a)) (MayEnd s t c) (MayEnd s t (Call.Act a)) (Exits t c) (Exits t (Call.Act a)) x y on_object on_thread may_end (λ v never. never) alike in
     let first : Step x t (Call.Act a) (act_reply x t a) gs step.woken = act_step x new t h o mode r gs a is step in
     let one = signal_pieces s x y step.woken t a (act_reply x t a) gs is.signals from_a quiet alike_a first in
-    let also = signal_pieces s x x step.woken t a (act_reply x t a) gs is.signals from_a from.quiet (alike_itself (TouchesObject s (Call.Act a)) (TouchesThread s t (Call.Act a)) (MayEnd s.now (Call.Act a)) x) first in
+    let also = signal_pieces s x x step.woken t a (act_reply x t a) gs is.signals from_a from.quiet (alike_itself (TouchesObject s t (Call.Act a)) (TouchesThread s t (Call.Act a)) (MayEnd s t (Call.Act a)) (Exits t (Call.Act a)) x) first in
     let ps : List Piece = one.pieces in
     let are : AreOf s h ps = subst (λ (i : ℕ). AreOf s i ps) own one.are in
     let mx : State = all_made ps x in
@@ -254,7 +256,7 @@ swap_made s x y new t h o mode r gs from quiet idle_s idle_y alike step =
       long = long_along ps y ∙ (alike.long ∙ sym (long_along ps x));
       now = now_made ps y ∙ (alike.now ∙ sym (now_made ps x));
       posts = ap (λ (qs : List (List Queued)). length qs) (apcs_made ps y) ∙ (alike.posts ∙ sym (ap (λ (qs : List (List Queued)). length qs) (apcs_made ps x)));
-      objects = λ i m. objects_made s h (TouchesObject s c) ps x y are (λ n j. inr (h, refl, j)) alike.long alike.objects i (as_object s h o mode i m);
+      objects = λ i m. objects_made s h (TouchesObject s t c) ps x y are (λ n j. inr (h, refl, j)) alike.long alike.objects i (as_object s t h o mode i m);
       waits = λ v m. subst (λ (i : ℕ). get my.waits i ≡ get mx.waits i) (sym (is_caller s t o mode v m)) (none_waits my t idle_my ∙ sym (none_waits mx t idle_mx));
       apcs = λ v m.
           subst (λ (i : ℕ). apc_queue_of my.apcs i ≡ apc_queue_of mx.apcs i) (sym (is_caller s t o mode v m))
@@ -262,6 +264,7 @@ swap_made s x y new t h o mode r gs from quiet idle_s idle_y alike step =
       hands = λ v m.
           subst (λ (i : ℕ). slice_index_or my.handing i false ≡ slice_index_or mx.handing i false) (sym (is_caller s t o mode v m))
           (hands_made s y h t ps are idle_s ∙ (alike.hands t (inl refl) ∙ sym (hands_made s x h t ps are idle_s)));
+      owned = λ v i m. absurd m;
       there = λ v w may e. absurd may.1;
       back = λ v w may e. absurd may.1;
       queues = λ ns p ix iy.
@@ -274,6 +277,7 @@ swap_made s x y new t h o mode r gs from quiet idle_s idle_y alike step =
       now = now_made ps x ∙ from.now;
       known = λ v w may e. absurd may.1;
       apcs = λ v m. subst (λ (i : ℕ). apc_queue_of mx.apcs i ≡ apc_queue_of s.apcs i) (sym (is_caller s t o mode v m)) (ap (λ (qs : List (List Queued)). apc_queue_of qs t) (apcs_made ps x) ∙ from.apcs t (inl refl));
+      owned = λ v i m. absurd m;
     } in
     let begins : ◌≡◌ {A = Reply × State} (r, new) (begun mx t (asked_wait mx.now wait) mode.ms) =
     step.answers ∙ ap {B = Reply × State} (λ (z : State). begun z t (asked_wait z.now wait) mode.ms) one.state in
@@ -292,11 +296,12 @@ swap_made s x y new t h o mode r gs from quiet idle_s idle_y alike step =
       state = two.state ∙ sym (leads x);
       step = subst (λ (z : State). Step y t c r gs z) (sym (leads y)) step_y;
       quiet = subst IsQuiet (sym (leads y)) two.quiet;
-      objects = λ i m. elim (objects_append (in_parts ps) qs i m) [ inl n ↦ inr (h, refl, on_reached s h ps i are n) | inr n ↦ as_object s h o mode i (two.objects i n) ];
+      objects = λ i m. elim (objects_append (in_parts ps) qs i m) [ inl n ↦ inr (h, refl, on_reached s h ps i are n) | inr n ↦ as_object s t h o mode i (two.objects i n) ];
       threads = λ v m. elim (threads_append s (in_parts ps) qs v m) [ inl n ↦ inr (h, refl, on_waiting s h ps v are n) | inr n ↦ inl (caller v n) ];
       idle = λ v m. elim (moves_append (in_parts ps) qs v m) [
         | inl n ↦ inr (ap (λ (z : State). pends z v) (leads y) ∙ left v n)
         | inr n ↦ inl (subst (λ (i : ℕ). pends y i ≡ false) (sym (caller v (moves_on s qs v n))) idle_y)
       ];
       keeps = keep_append s (in_parts ps) qs (pieces_keep s ps) two.keeps;
+      strange = λ v differs idle_v. strange_append v (in_parts ps) qs (pieces_strange s h ps v are (one.fair v) idle_v) (two.strange v differs idle_v);
     }

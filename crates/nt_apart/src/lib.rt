@@ -17,7 +17,7 @@
 //! | `signals_commute_with_apcs`, `apcs_commute_with_signals` | an act that may end waits, and an APC to a thread that does not wait for its object |
 //! | `two_timers_commute` | two timers that are set for later moments or cancelled |
 //! | `signals_commute_with_timers`, `timers_commute_with_signals` | an act that may end waits, and a timer that is set for later or cancelled |
-//! | `steps_apart_commute` | any two of these steps, timers due at once, SignalObjectAndWait, closes and APCs taken, whose footprints have no object and no thread in common |
+//! | `steps_apart_commute` | any two steps but creations and duplicates, whose footprints have no object and no thread in common |
 //! | `two_closes_commute` | two handles that are closed, as whole calls, with the objects that end |
 //! | `fewer_lanes_are_enough` | a search that leaves lanes out meets a shortest hang, if the lanes that it tries are enough |
 //!

@@ -1,11 +1,9 @@
 //! Steps of two threads that commute.
 ghost use Rattle.nt_apart.specs.Apart.{ChangesOfTwoObjectsCommute, CallsOnTwoObjectsCommute, WakingCommutes, WaitsBeginInEitherOrder, WaitsBeginBesideChanges, WaitsCommuteWithChanges};
 ghost use Rattle.nt_apart.specs.Reach.{SignalsCommute};
-ghost use Rattle.nt_apart.specs.Apcs.{ApcsToTwoThreadsCommute};
-ghost use Rattle.nt_apart.specs.ApcsBeside.{SignalsCommuteWithApcs, ApcsCommuteWithSignals};
+ghost use Rattle.nt_apart.specs.Apcs.{ApcsToTwoThreadsCommute, SignalsCommuteWithApcs, ApcsCommuteWithSignals};
 ghost use Rattle.nt_apart.specs.Timers.{TwoTimersCommute, SignalsCommuteWithTimers, TimersCommuteWithSignals};
-ghost use Rattle.nt_apart.specs.Footprint.{StepsApartCommute};
-ghost use Rattle.nt_apart.specs.Closing.{TwoClosesCommute};
+ghost use Rattle.nt_apart.specs.Footprint.{StepsApartCommute, TwoClosesCommute};
 
 /// Two acts that change one object each, not the same, that no pending wait names, may be made in either order: the replies are the same, no
 /// wait ends, and the state after both is the same.
@@ -77,8 +75,8 @@ pub fn timers_commute_with_signals()
     ensures { TimersCommuteWithSignals }
 {}
 
-/// Two calls that touch nothing in common may be made in either order: waits that begin, whether or not they signal an object
-/// before, and acts that signal an object, queue or take an APC, set or cancel a timer, or close a handle.
+/// Two calls that touch nothing in common may be made in either order, but for creations and duplicates of handles: with the same replies, grants and
+/// state, whether or not they end waits.
 pub fn steps_apart_commute()
     ensures { StepsApartCommute }
 {}
