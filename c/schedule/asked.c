@@ -208,8 +208,8 @@ __attribute__((noreturn)) static void make_runs(void)
 
 static void open_turns(void)
 {
-    schedule.turns_told = beyond_streams(open(schedule.turns_file, O_WRONLY | O_CREAT | O_TRUNC | O_APPEND | O_CLOEXEC, 0666));
-    if (schedule.turns_told < 0)
+    schedule.turns_told = open_output(schedule.turns_file, O_APPEND);
+    if (schedule.turns_told.number < 0)
         refuse("ntwin: NTWIN_SCHEDULE: %s: %s", schedule.turns_file, strerror(errno));
 }
 

@@ -3,6 +3,8 @@
  * not say is as usual. */
 #include "internal.h"
 
+enum { LONGEST_LINE_READ = 256 };
+
 static const char first_line[] = "; ntwin-schedule 1";
 static const char free_time[] = " time=free", still_time[] = " time=still";
 
@@ -50,23 +52,43 @@ static bool read_decision(const char *line, struct decision *it)
     return true;
 }
 
+/* Reads a line without its end: of a comment no more than there is room for, and else it goes on as the next one, and is no decision. A zero in it
+ * stands as a letter that no decision has. False where there is none. */
+static bool read_line(FILE *file, char line[LONGEST_LINE_READ])
+{
+    size_t length = 0;
+    int letter = 0;
+    while ((length + 1 < LONGEST_LINE_READ || line[0] == ';') && (letter = getc(file)) != EOF && letter != '\n')
+        if (length + 1 < LONGEST_LINE_READ)
+            line[length++] = letter != 0 ? (char)letter : '?';
+    line[length] = 0;
+    return letter != EOF || length > 0;
+}
+
+static void take_decision(const char *path, uint32_t number, const char *line)
+{
+    struct shared_run *shared = schedule.shared;
+    if (shared->wanted_count == MOST_DECISIONS)
+        refuse("ntwin: NTWIN_SCHEDULE: %s:%u: more than %d decisions", path, number, MOST_DECISIONS);
+    if (!read_decision(line, &shared->wanted[shared->wanted_count++]))
+        refuse("ntwin: NTWIN_SCHEDULE: %s:%u: no decision: 't1 12 t2' (at its point 12, t1 has t2 go on) or 't1 12 clock' can stand there", path, number);
+}
+
 NTW_INTERNAL void read_decisions(const char *path)
 {
-    char line[256];
+    char line[LONGEST_LINE_READ] = "";
     FILE *file = fopen(path, "re");
     if (file == NULL)
         refuse("ntwin: NTWIN_SCHEDULE: %s: %s", path, strerror(errno));
-    for (uint32_t number = 1; fgets(line, sizeof line, file) != NULL; number++) {
-        if (number == 1 && strncmp(line, first_line, sizeof first_line - 1) != 0)
-            refuse("ntwin: NTWIN_SCHEDULE: %s: no file of decisions: its first line is '%s', as ntwin-explore writes it", path, first_line);
-        if (line[0] == ';' || line[0] == '\n') {
-            schedule.is_free |= number == 1 && strstr(line, free_time) != NULL;
-            schedule.is_still |= number == 1 && strstr(line, still_time) != NULL;
-            continue;
-        }
-        if (schedule.shared->wanted_count == MOST_DECISIONS || !read_decision(line, &schedule.shared->wanted[schedule.shared->wanted_count++]))
-            refuse("ntwin: NTWIN_SCHEDULE: %s:%u: no decision: 't1 12 t2' (at its point 12, t1 has t2 go on) or 't1 12 clock' can stand there", path,
-                   number);
-    }
+    const bool has_line = read_line(file, line);
+    if (!ferror(file) && (!has_line || strncmp(line, first_line, sizeof first_line - 1) != 0))
+        refuse("ntwin: NTWIN_SCHEDULE: %s: no file of decisions: its first line is '%s', as ntwin-explore writes it", path, first_line);
+    schedule.is_free |= strstr(line, free_time) != NULL;
+    schedule.is_still |= strstr(line, still_time) != NULL;
+    for (uint32_t number = 2; read_line(file, line); number++)
+        if (line[0] != ';' && line[0] != 0)
+            take_decision(path, number, line);
+    if (ferror(file))
+        refuse("ntwin: NTWIN_SCHEDULE: %s: %s", path, strerror(errno));
     fclose(file);
 }

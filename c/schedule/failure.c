@@ -110,7 +110,7 @@ NTW_INTERNAL void begin_trace(void)
 {
     schedule.trace_from = schedule.shared->steps > MOST_TRACED ? schedule.shared->steps - MOST_TRACED : 0;
     if (schedule.traced[0] != 0)
-        schedule.trace = beyond_streams(open(schedule.traced, O_WRONLY | O_CREAT | O_TRUNC | O_CLOEXEC, 0666));
+        schedule.trace = open_output(schedule.traced, 0);
 }
 
 /* The run of this name, which is this one of all, has failed. */

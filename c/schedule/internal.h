@@ -92,6 +92,13 @@ struct shared_run {
     struct decision made[MOST_DECISIONS], wanted[MOST_DECISIONS];
 };
 
+/* A file that a run writes to, or of which the number is less than 0. (A program may close what it did not open, and have another file by that number.) */
+struct output {
+    int number;
+    dev_t device;
+    ino_t node;
+};
+
 struct schedule {
     enum strategy strategy;
     uint64_t seed, count;         /* of the first run, and how many runs; 0 where the process itself is the run */
@@ -127,8 +134,8 @@ struct schedule {
     uint64_t now, sleeps, turns;
     uint64_t ended;               /* when the process began to end, by the system's clock; or 0 */
     char turns_file[512];         /* to which it is written what a run does to its turns (told.c); or empty */
-    int turns_told;               /* that file, or less than 0 */
-    int trace;                    /* a file of its steps, from this one on; or less than 0 */
+    struct output turns_told;     /* that file */
+    struct output trace;          /* a file of its steps, from this one on */
     uint64_t trace_from;
     pthread_key_t ending;
 };
@@ -146,6 +153,8 @@ __attribute__((noreturn, format(printf, 2, 3))) NTW_INTERNAL void end_run_saying
 
 /* ---- told.c */
 
+NTW_INTERNAL struct output open_output(const char *path, int flags);
+NTW_INTERNAL void write_to(const struct output *it, const char *text, size_t length);
 __attribute__((format(printf, 1, 2))) NTW_INTERNAL void tell_turns(const char *format, ...);
 NTW_INTERNAL void tell_of_run(void);
 NTW_INTERNAL void tell_of_sleep(const struct scheduled *it);

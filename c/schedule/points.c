@@ -42,7 +42,7 @@ __attribute__((noinline)) static void write_step(enum point point, uint32_t chos
         length += more < LONGEST_FRAME ? more : 0;
     }
     line[length++] = '\n';
-    (void)!write(schedule.trace, line, (size_t)length);
+    write_to(&schedule.trace, line, (size_t)length);
 }
 
 /* ---- The baton goes on. */
@@ -81,7 +81,7 @@ static struct scheduled *choose(enum point point)
         if (usual == NO_ONE && !is_last && (awaits_arrival(point == AT_END) || awaits_outside()))
             continue;
         const uint32_t chosen = decide(point, usual, &stand);
-        if (schedule.trace >= 0 && schedule.shared->steps >= schedule.trace_from)
+        if (schedule.trace.number >= 0 && schedule.shared->steps >= schedule.trace_from)
             write_step(point, chosen);
         if (chosen == THE_CLOCK)
             jump(stand.deadline);
@@ -304,11 +304,12 @@ __attribute__((noinline, cold)) NTW_INTERNAL void begin_scheduled(const struct s
     begin_in_memory(it);
 }
 
-/* The caller ends, in the last round of its destructors: what those of the program call is scheduled, too. */
+/* The caller ends, in the last round of its destructors: what those of the program call is scheduled, too. (In a child that was forked nothing is: the
+ * threads that it knows of are not there.) */
 NTW_INTERNAL void end_scheduled(void *round)
 {
     char *next = (char *)round + 1;
-    if (me == NULL || (next < ending_rounds + sizeof ending_rounds && pthread_setspecific(schedule.ending, next) == 0))
+    if (!is_scheduled || me == NULL || (next < ending_rounds + sizeof ending_rounds && pthread_setspecific(schedule.ending, next) == 0))
         return;
     end_thread(me);
     if (has_points())

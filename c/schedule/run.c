@@ -12,7 +12,7 @@
 
 NTW_INTERNAL bool is_scheduled, notes_touches;
 NTW_INTERNAL _Thread_local volatile uint32_t own_calls __attribute__((tls_model("initial-exec")));
-NTW_INTERNAL struct schedule schedule = { .most_steps = 200000, .most_seconds = 5, .until = NEVER, .turns_told = -1, .trace = -1 };
+NTW_INTERNAL struct schedule schedule = { .most_steps = 200000, .most_seconds = 5, .until = NEVER, .turns_told.number = -1, .trace.number = -1 };
 
 NTW_INTERNAL _Thread_local struct scheduled *me __attribute__((tls_model("initial-exec")));
 NTW_INTERNAL _Thread_local bool is_beyond __attribute__((tls_model("initial-exec"))); /* it has ended, for the scheduler */

@@ -14,16 +14,35 @@
  * hangs */
 #include "internal.h"
 
+NTW_INTERNAL struct output open_output(const char *path, int flags)
+{
+    struct stat file;
+    struct output it = { .number = beyond_streams(open(path, O_WRONLY | O_CREAT | O_TRUNC | O_CLOEXEC | flags, 0666)) };
+    if (it.number >= 0 && fstat(it.number, &file) == 0) {
+        it.device = file.st_dev;
+        it.node = file.st_ino;
+    }
+    return it;
+}
+
+/* Writes there, unless that number is another file's by now. */
+NTW_INTERNAL void write_to(const struct output *it, const char *text, size_t length)
+{
+    struct stat file;
+    if (fstat(it->number, &file) == 0 && file.st_dev == it->device && file.st_ino == it->node)
+        (void)!write(it->number, text, length);
+}
+
 __attribute__((format(printf, 1, 2))) NTW_INTERNAL void tell_turns(const char *format, ...)
 {
     char line[160];
     va_list words;
-    if (schedule.turns_told < 0)
+    if (schedule.turns_told.number < 0)
         return;
     va_start(words, format);
     const int length = vsnprintf(line, sizeof line, format, words);
     va_end(words);
-    (void)!write(schedule.turns_told, line, (size_t)length);
+    write_to(&schedule.turns_told, line, (size_t)length);
 }
 
 NTW_INTERNAL void tell_of_run(void)

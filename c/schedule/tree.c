@@ -159,14 +159,21 @@ struct exploration {
     int ends;                  /* to which it is written how each ended; or less than 0 */
 };
 
+/* How many of these runs fail, in words. */
+static const char *words_of_failed(const struct exploration *search, char words[40])
+{
+    snprintf(words, 40, search->failed == 0 ? "none fails" : "%llu of them fail", (unsigned long long)search->failed);
+    return words;
+}
+
 __attribute__((noreturn)) static void meet_bound(const struct exploration *search, const char *what, uint32_t bound)
 {
-    char whole[48] = "";
+    char whole[48] = "", failed[40];
     end_progress();
     if (bound != MOST_BOUND)
         snprintf(whole, sizeof whole, "; none of a cost below %u was left out", bound);
-    dprintf(1, "ntwin: explore: %llu runs, none fails, and then %s%s; %.2f s\n", (unsigned long long)search->runs, what, whole,
-            seconds_since(search->began));
+    dprintf(1, "ntwin: explore: %llu runs, %s, and then %s%s; %.2f s\n", (unsigned long long)search->runs, words_of_failed(search, failed), what,
+            whole, seconds_since(search->began));
     _exit(BOUND_MET);
 }
 
@@ -198,13 +205,6 @@ static void note_run(struct exploration *search)
         tell_failure("explore", search->runs, search->began);
     if (search->ends >= 0)
         write_end(search->ends);
-}
-
-/* How many of these runs fail, in words. */
-static const char *words_of_failed(const struct exploration *search, char words[40])
-{
-    snprintf(words, 40, search->failed == 0 ? "none fails" : "%llu of them fail", (unsigned long long)search->failed);
-    return words;
 }
 
 /* Tries all schedules of a cost within the bound. */

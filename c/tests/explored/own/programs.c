@@ -1,9 +1,13 @@
 /* Programs by which run tries what holds of each run. The main function of the program NAME is main_of_NAME. */
 #include "../explored.h"
 
+#include <fcntl.h>
+#include <pthread.h>
 #include <string.h>
+#include <sys/wait.h>
+#include <unistd.h>
 
-enum { THREADS = 3, ROUNDS = 4, HOUR = 3600000, TO_LOOK = 100 };
+enum { THREADS = 3, ROUNDS = 4, HOUR = 3600000, TO_LOOK = 100, MOST_FILES = 32 };
 
 /* Sets the event of a thread of its own, as often as `others` says. */
 static int others = 1;
@@ -13,6 +17,11 @@ static DWORD WINAPI set_often(LPVOID event)
     for (int i = 0; i < others; i++)
         SetEvent(event);
     return 0;
+}
+
+static DWORD WINAPI wait_for(LPVOID event)
+{
+    return WaitForSingleObject(event, INFINITE);
 }
 
 /* 100 interlocked calls of one thread. */
@@ -37,6 +46,33 @@ int main_of_differs(int count, char **words)
     fclose(file);
     for (long i = 0; i < calls; i++)
         SetEvent(event);
+    WaitForSingleObject(other, INFINITE);
+    return 0;
+}
+
+/* It closes all that it did not open, opens a file again and again, and calls. */
+int main_of_closes_all(int count, char **words)
+{
+    HANDLE event = CreateEventA(NULL, TRUE, FALSE, NULL);
+    for (int i = 3; i < MOST_FILES; i++)
+        close(i);
+    for (int i = 3; i < MOST_FILES; i++)
+        EXPECT(open(count > 1 ? words[1] : "/dev/null", O_WRONLY | O_CREAT | O_TRUNC | O_APPEND, 0666) == i);
+    SetEvent(event);
+    return 0;
+}
+
+/* A child ends as its only thread does, beside one that waits. */
+int main_of_ends_in_child(void)
+{
+    int status = -1;
+    HANDLE event = CreateEventA(NULL, TRUE, FALSE, NULL), other = begin(wait_for, event);
+    Sleep(1);
+    const pid_t child = fork();
+    if (child == 0)
+        pthread_exit(NULL);
+    EXPECT(waitpid(child, &status, 0) == child && status == 0);
+    SetEvent(event);
     WaitForSingleObject(other, INFINITE);
     return 0;
 }
