@@ -290,6 +290,7 @@ NTW_INTERNAL int find_loaded(struct dl_phdr_info *info, size_t size, void *at);
 NTW_INTERNAL int find_file(struct dl_phdr_info *info, size_t size, void *at);
 NTW_INTERNAL size_t first_place_from(const struct places *places, uintptr_t address);
 NTW_INTERNAL bool read_functions(const struct loaded *loaded, const char *path, struct places *places);
+NTW_INTERNAL const void *address_in(ElfW(Addr) base, ElfW(Addr) address);
 NTW_INTERNAL void ask_loader(const struct loaded *loaded, struct places *places);
 
 /* ---- stacks.c */

@@ -135,7 +135,7 @@ NTW_INTERNAL size_t first_place_from(const struct places *places, uintptr_t addr
     return from;
 }
 
-/* Gives a function to those places that are in it, where none is known that begins later. */
+/* Gives a function to those places that are in it and have no name yet, where none is known that begins later. */
 static void give_symbol(struct places *places, uintptr_t base, const ElfW(Sym) *symbol)
 {
     const unsigned type = symbol->st_info & 0xF;
@@ -145,7 +145,7 @@ static void give_symbol(struct places *places, uintptr_t base, const ElfW(Sym) *
         struct place *place = &places->of[i];
         if (place->address - base - symbol->st_value >= symbol->st_size || place->address - base < symbol->st_value)
             return;
-        if (place->is_loaded && place->base == base && place->begin < symbol->st_value) {
+        if (place->is_loaded && place->base == base && place->function[0] == 0 && place->begin < symbol->st_value) {
             place->begin = symbol->st_value;
             place->symbol = symbol->st_name;
         }
@@ -207,20 +207,83 @@ NTW_INTERNAL bool read_functions(const struct loaded *loaded, const char *path, 
     return is_its;
 }
 
-/* Gives the places in this, which have none, the functions that the loader knows: those that other files may call. (It stays loaded meanwhile.) */
-NTW_INTERNAL void ask_loader(const struct loaded *loaded, struct places *places)
+/* ---- What the loader has in memory: the functions that other files may call. (It is read where that lists what is loaded, and is not asked: whoever
+ * loads a library has the loader's lock while the constructors of that run, and one of them may wait for ever.) */
+
+/* The table of symbols for others of what was loaded. */
+struct exported {
+    const ElfW(Sym) *symbols;
+    const char *names;
+    const uint32_t *hashes; /* of one of two kinds */
+    bool is_gnu;
+};
+
+/* What stands at this address of what is loaded there. (The loader has added the base to it, or, in the kernel's own, not.) */
+NTW_INTERNAL const void *address_in(ElfW(Addr) base, ElfW(Addr) address)
 {
-    Dl_info info;
-    void *pin = dlopen(loaded->name[0] != 0 ? loaded->name : NULL, RTLD_LAZY | RTLD_NOLOAD);
-    if (pin == NULL)
-        return;
+    return (const void *)(address < base ? base + address : address);
+}
+
+static void read_dynamic(struct exported *it, ElfW(Addr) base, const ElfW(Dyn) *entry)
+{
+    for (; entry->d_tag != DT_NULL; entry++)
+        if (entry->d_tag == DT_SYMTAB) {
+            it->symbols = address_in(base, entry->d_un.d_ptr);
+        } else if (entry->d_tag == DT_STRTAB) {
+            it->names = address_in(base, entry->d_un.d_ptr);
+        } else if (entry->d_tag == DT_GNU_HASH || (entry->d_tag == DT_HASH && it->hashes == NULL)) {
+            it->hashes = address_in(base, entry->d_un.d_ptr);
+            it->is_gnu = entry->d_tag == DT_GNU_HASH;
+        }
+}
+
+/* How many symbols there are. (A table of the newer kind has chains, of which the last one's last symbol is the last of all.) */
+static uint32_t count_of(const struct exported *it)
+{
+    const uint32_t *hashes = it->hashes;
+    if (!it->is_gnu)
+        return hashes[1];
+    const uint32_t *buckets = hashes + 4 + hashes[2] * (sizeof(ElfW(Addr)) / sizeof *hashes), *chains = buckets + hashes[0];
+    uint32_t last = 0;
+    for (uint32_t i = 0; i < hashes[0]; i++)
+        last = buckets[i] > last ? buckets[i] : last;
+    while (last >= hashes[1] && (chains[last - hashes[1]] & 1) == 0)
+        last++;
+    return last >= hashes[1] ? last + 1 : hashes[1];
+}
+
+/* What is asked: of what was loaded, for these places. */
+struct asked_of_loader {
+    const struct loaded *loaded;
+    struct places *places;
+};
+
+static int give_exported(struct dl_phdr_info *info, size_t size, void *at)
+{
+    const struct asked_of_loader *asked = at;
+    struct places *places = asked->places;
+    struct exported it = { .symbols = NULL };
+    (void)size;
+    if (info->dlpi_addr != asked->loaded->base || !is_in(info, asked->loaded->address))
+        return 0;
+    for (size_t i = 0; i < info->dlpi_phnum; i++)
+        if (info->dlpi_phdr[i].p_type == PT_DYNAMIC)
+            read_dynamic(&it, info->dlpi_addr, (const void *)(info->dlpi_addr + info->dlpi_phdr[i].p_vaddr));
+    if (it.symbols == NULL || it.names == NULL || it.hashes == NULL)
+        return 1;
+    for (uint32_t i = 0, count = count_of(&it); i < count; i++)
+        give_symbol(places, info->dlpi_addr, &it.symbols[i]);
     for (size_t i = 0; i < places->count; i++) {
         struct place *place = &places->of[i];
-        if (place->is_loaded && place->base == loaded->base && place->function[0] == 0
-            && dladdr((const void *)place->address, &info) != 0 && info.dli_sname != NULL) {
-            snprintf(place->function, sizeof place->function, "%s", info.dli_sname);
-            place->begin = (uintptr_t)info.dli_saddr - place->base;
-        }
+        if (place->is_loaded && place->base == info->dlpi_addr && place->function[0] == 0 && place->begin != 0)
+            snprintf(place->function, sizeof place->function, "%s", it.names + place->symbol);
     }
-    dlclose(pin);
+    return 1;
+}
+
+/* Gives the places in this, which have none, the functions that the loader knows. */
+NTW_INTERNAL void ask_loader(const struct loaded *loaded, struct places *places)
+{
+    struct asked_of_loader asked = { loaded, places };
+    dl_iterate_phdr(give_exported, &asked);
 }

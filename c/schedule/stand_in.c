@@ -89,21 +89,15 @@ static void stand_in_at(const struct linked *module, const ElfW(Rela) *it)
         write_over(module, module->base + it->r_offset, stand_ins[which].instead);
 }
 
-/* (The loader has added the base to these addresses, or, of the kernel's own module, not.) */
-static const void *address_in(const struct linked *module, ElfW(Addr) address)
-{
-    return (const void *)(address < module->base ? module->base + address : address);
-}
-
 static void read_module(struct linked *module, const ElfW(Dyn) *it)
 {
     for (; it->d_tag != DT_NULL; it++)
         switch (it->d_tag) {
-        case DT_SYMTAB: module->symbols = address_in(module, it->d_un.d_ptr); break;
-        case DT_STRTAB: module->names = address_in(module, it->d_un.d_ptr); break;
-        case DT_RELA: module->places[0] = address_in(module, it->d_un.d_ptr); break;
+        case DT_SYMTAB: module->symbols = address_in(module->base, it->d_un.d_ptr); break;
+        case DT_STRTAB: module->names = address_in(module->base, it->d_un.d_ptr); break;
+        case DT_RELA: module->places[0] = address_in(module->base, it->d_un.d_ptr); break;
         case DT_RELASZ: module->sizes[0] = it->d_un.d_val; break;
-        case DT_JMPREL: module->places[1] = address_in(module, it->d_un.d_ptr); break;
+        case DT_JMPREL: module->places[1] = address_in(module->base, it->d_un.d_ptr); break;
         case DT_PLTRELSZ: module->sizes[1] = it->d_un.d_val; break;
         default: break;
         }

@@ -9,6 +9,11 @@ import subprocess
 NAME = "lost_pulse"
 FUNCTION = re.compile(r"[\w.]+\+0x\.\. \(([^)]*)\)")
 IN_LIBRARY = "int hang(void); int main(void) { return hang(); }\n"
+# A library whose constructor waits for ever, and a program that loads it.
+WAITS = """#include <windows.h>
+__attribute__((constructor)) static void wait_for_ever(void) { WaitForSingleObject(CreateEventA(NULL, TRUE, FALSE, NULL), INFINITE); }
+"""
+LOADS = "#include <dlfcn.h>\nint main(void) { return dlopen(LIBRARY, RTLD_NOW) == 0; }\n"
 
 
 class Files:
@@ -90,6 +95,22 @@ class Files:
         shared, program = self.build_library("built_anew", "-Wl,--build-id=0x1234")
         other, _ = self.build_library("other", "-Wl,--build-id=0x4321")
         self.tells(program, self.of_library("built_anew"), meanwhile=lambda: os.rename(other, shared))
+
+    def is_in_constructor(self):
+        """Who loads a library has the loader's lock while its constructor waits: that is told all the same."""
+        shared, program = f"{self.folder}/waits.so", f"{self.folder}/loads"
+        words = [*self.run.WAYS[self.way], *self.run.WARNINGS, f"-I{self.run.C}/win"]
+        for path, text, flags in ((shared, WAITS, ["-fPIC", "-shared"]), (program, LOADS, [f'-DLIBRARY="{shared}"', "-rdynamic", *self.library(), "-ldl"])):
+            with open(f"{path}.c", "w", encoding="utf-8") as file:
+                file.write(text)
+            subprocess.run([*words, "-o", path, f"{path}.c", *flags], check=True)
+        run = self.run.Run(program, NTWIN_WHY="signal", PATH="/nowhere")
+        try:
+            run.await_line("SigBlk:", lambda it: int(it, 16) >> (signal.SIGQUIT - 1) & 1)
+            while "waits for event" not in run.quit(self.run.SECONDS / 10):
+                pass
+        finally:
+            run.end()
 
     # Which addr2line there is.
 
@@ -174,5 +195,5 @@ class Files:
 
     def all(self):
         return [self.is_stripped, self.is_at_its_address, self.is_deleted, self.is_replaced, self.is_in_library, self.library_is_deleted,
-                self.library_is_built_anew, self.without_addr2line, self.with_one_in_the_folder, self.with_one_that_hangs,
+                self.library_is_built_anew, self.is_in_constructor, self.without_addr2line, self.with_one_in_the_folder, self.with_one_that_hangs,
                 self.with_one_that_never_ends, self.with_one_that_fails, self.with_strange_lines, self.is_broken]
