@@ -64,11 +64,25 @@ void ntwin_write_waits(FILE *to)
     free(text);
 }
 
-/* Writes to standard error, which may be closed. (Not through its stream: who waits may hold that.) */
+static bool had_no_error; /* standard error was closed as the program began: written before main */
+
+/* Whether there is a standard error. (Where it was closed as the program began, the program has a file of its own by that number, if any; so it does
+ * where a program that it becomes is not to have that.) */
+static bool has_error(void)
+{
+    const int flags = fcntl(STDERR_FILENO, F_GETFD);
+    return !had_no_error && flags >= 0 && (flags & FD_CLOEXEC) == 0;
+}
+
+/* Writes to standard error, where there is one. (Not through its stream: who waits may hold that.) */
 NTW_INTERNAL void say(const char *text)
 {
     const int error = errno;
     struct quiet quiet;
+    if (!has_error()) {
+        errno = error;
+        return;
+    }
     begin_quiet(&quiet);
     for (size_t left = strlen(text); left > 0;) {
         const ssize_t written = write(STDERR_FILENO, text, left);
@@ -273,6 +287,7 @@ __attribute__((destructor(101))) static void end_looking(void)
 __attribute__((constructor(101))) static void read_environment(void)
 {
     const char *asked = secure_getenv("NTWIN_SCHEDULE");
+    had_no_error = fcntl(STDERR_FILENO, F_GETFD) < 0;
     if (asked != NULL && *asked != 0)
         begin_schedule(asked);
     const char *why = is_scheduled ? NULL : secure_getenv("NTWIN_WHY"), *path = secure_getenv("NTWIN_JOURNAL");

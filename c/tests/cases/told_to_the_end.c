@@ -1,12 +1,14 @@
-/* Within 30 s, unsanitized: 4 passed, 0 failed.
+/* Within 30 s, unsanitized: 8 passed, 0 failed.
  *
  * The thread that takes SIGQUIT is in the midst of telling why threads wait. A child that is forked then may call, as if nothing were written; and a
- * process that ends then has written all. */
+ * process that ends then has written all. Where standard error is closed, nothing is written into the file that has its number. */
 #include "case.h"
 
 #include <dlfcn.h>
+#include <fcntl.h>
 #include <stdarg.h>
 #include <sys/prctl.h>
+#include <sys/stat.h>
 #include <sys/syscall.h>
 
 enum { IN_NOTHING, IN_TEXT, IN_WRITING };
@@ -77,6 +79,51 @@ static int end_meanwhile(void)
     return 0;
 }
 
+/* Opens a file of its own by the number of standard error, and the library tells. */
+static int tell_nobody(const char *path, int flags)
+{
+    must(open(path, O_WRONLY | flags) == STDERR_FILENO);
+    hold_report(IN_TEXT);
+    let_go_on();
+    return 0;
+}
+
+static int act(const char *what, const char *path)
+{
+    if (strcmp(what, "fork") == 0)
+        return fork_meanwhile();
+    if (strcmp(what, "end") == 0)
+        return end_meanwhile();
+    if (strcmp(what, "closed") == 0)
+        return tell_nobody(path, 0);
+    close(STDERR_FILENO);
+    return tell_nobody(path, O_CLOEXEC);
+}
+
+__attribute__((noreturn)) static void become(const char *program, const char *act, const char *path)
+{
+    prctl(PR_SET_PDEATHSIG, SIGKILL);
+    setenv("NTWIN_WHY", "signal", 1);
+    execl("/proc/self/exe", program, act, path, (char *)NULL);
+    _exit(2);
+}
+
+/* This program does that, where standard error is closed, or is closed and then opened. */
+static void tells_nobody(const char *program, const char *act, bool is_closed)
+{
+    char path[] = "/tmp/ntwin-XXXXXX";
+    struct stat file;
+    must(close(mkstemp(path)) == 0);
+    const pid_t child = fork();
+    if (child == 0 && is_closed)
+        close(STDERR_FILENO);
+    if (child == 0)
+        become(program, act, path);
+    IS(status_of(child), 0);
+    must(stat(path, &file) == 0 && unlink(path) == 0);
+    IS(file.st_size, 0);
+}
+
 /* This program does that, and has written this to its end. */
 static int told_by(const char *program, const char *act, char *told, size_t room)
 {
@@ -85,13 +132,10 @@ static int told_by(const char *program, const char *act, char *told, size_t room
     must(pipe(ends) == 0);
     const pid_t child = fork();
     if (child == 0) {
-        prctl(PR_SET_PDEATHSIG, SIGKILL);
-        setenv("NTWIN_WHY", "signal", 1);
         dup2(ends[1], STDERR_FILENO);
         close(ends[0]);
         close(ends[1]);
-        execl("/proc/self/exe", program, act, (char *)NULL);
-        _exit(2);
+        become(program, act, NULL);
     }
     close(ends[1]);
     for (ssize_t more; length < room - 1 && (more = read(ends[0], told + length, room - 1 - length)) > 0;)
@@ -105,10 +149,12 @@ int main(int count, char **words)
 {
     static char told[4096];
     if (count > 1)
-        return strcmp(words[1], "fork") == 0 ? fork_meanwhile() : end_meanwhile();
+        return act(words[1], count > 2 ? words[2] : NULL);
     IS(told_by(words[0], "fork", told, sizeof told), 0);
     IS(strcmp(told, "ntwin: 0 threads wait, 1 runs\n  nobody waits\n"), 0);
     IS(told_by(words[0], "end", told, sizeof told), 0);
     IS(strcmp(told, "ntwin: 0 threads wait, 1 runs\n  nobody waits\n"), 0);
+    tells_nobody(words[0], "closed", true);
+    tells_nobody(words[0], "closes", false);
     return counted();
 }
