@@ -153,7 +153,8 @@ static void the_most(void)
 /* ---- What is closed while a callback uses it: it is there until that has ended, and so are the members of its group; and it comes no more. */
 
 static PTP_WORK USED_WORK;
-static HANDLE GO, DONE, SET, QUEUE, OWN_TIMER, OTHER_TIMER;
+static HANDLE GO, DONE, SET, QUEUE, OWN_TIMER, OTHER_TIMER, LATE_TIMER;
+static LONG CAME_LATE;
 static FILETIME AT_ONCE;
 
 static void CALLBACK count_work(PTP_CALLBACK_INSTANCE instance, PVOID ran, PTP_WORK work)
@@ -238,6 +239,8 @@ static void CALLBACK change_timers(PVOID steps, BOOLEAN timed_out)
     IS(settled(steps, 3), 3);
     ANSWERS(ChangeTimerQueueTimer(QUEUE, OTHER_TIMER, 0, 0), TRUE, UNTOUCHED);
     ANSWERS(DeleteTimerQueueTimer(QUEUE, OTHER_TIMER, NULL), TRUE, UNTOUCHED);
+    ANSWERS(CreateTimerQueueTimer(&LATE_TIMER, QUEUE, count_late, &CAME_LATE, 1, 0, WT_EXECUTEDEFAULT), FALSE, ERROR_INVALID_HANDLE);
+    IS(LATE_TIMER == NULL, TRUE);
     ANSWERS(DeleteTimerQueueTimer(QUEUE, OWN_TIMER, NULL), FALSE, ERROR_IO_PENDING);
     Sleep(20);
     InterlockedIncrement(steps);
@@ -270,6 +273,7 @@ static void closed_queue(HANDLE done)
     IS(done == NULL || done == INVALID_HANDLE_VALUE || WaitForSingleObject(done, 60000) == WAIT_OBJECT_0, TRUE);
     IS(done == NULL ? settled(&steps, 4) : ReadAcquire(&steps), 4);
     IS(later(&came), 0);
+    IS(ReadAcquire(&CAME_LATE), 0);
     must(WaitForSingleObject(thread, INFINITE) == WAIT_OBJECT_0 && CloseHandle(thread));
 }
 

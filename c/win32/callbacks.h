@@ -86,6 +86,7 @@ NTW_INTERNAL bool bring_lacking(PTP_POOL pool);
 
 struct _TP_CLEANUP_GROUP {
     struct task *first;
+    bool is_deleted;  /* it is a queue, and has no further timer; */
     bool is_closed;   /* it is gone once its last task has left it, */
     uint32_t awaited; /* or once none of so many has a callback any longer: then all of them are, too; */
     HANDLE done;      /* and then this event is set; null where there is none */
@@ -110,7 +111,7 @@ NTW_INTERNAL BOOL end_task(struct task *task, HANDLE event);
 /* ---- pool_calls.c */
 
 NTW_INTERNAL void *new_task(bool has_callback, size_t size);
-NTW_INTERNAL void open_task(struct task *task, PVOID context, PTP_CALLBACK_ENVIRON environment);
+NTW_INTERNAL bool open_task(struct task *task, PVOID context, PTP_CALLBACK_ENVIRON environment);
 NTW_INTERNAL void free_task(struct task *task);
 
 /* ---- watch.c */

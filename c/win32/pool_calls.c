@@ -33,11 +33,15 @@ NTW_INTERNAL void *new_task(bool has_callback, size_t size)
     return made;
 }
 
-NTW_INTERNAL void open_task(struct task *task, PVOID context, PTP_CALLBACK_ENVIRON environment)
+/* Answers whether the task is there: not in a queue that is being deleted. */
+NTW_INTERNAL bool open_task(struct task *task, PVOID context, PTP_CALLBACK_ENVIRON environment)
 {
     take_latch(&pools_latch);
-    add_task(task, context, environment);
+    const bool is_open = environment == NULL || environment->CleanupGroup == NULL || !environment->CleanupGroup->is_deleted;
+    if (is_open)
+        add_task(task, context, environment);
     give_latch(&pools_latch);
+    return is_open;
 }
 
 PTP_POOL CreateThreadpool(PVOID reserved)

@@ -228,7 +228,11 @@ NTW_INTERNAL PTP_TIMER make_timer(struct _TP_TIMER what, PVOID context, PTP_CALL
     timer->task.call = call_timer;
     timer->task.end = free_timer;
     timer->task.stop = stop_timer;
-    open_task(&timer->task, context, environment);
+    if (!open_task(&timer->task, context, environment)) {
+        free_timer(&timer->task);
+        fail(ERROR_INVALID_HANDLE);
+        return NULL;
+    }
     return timer;
 }
 
@@ -329,12 +333,14 @@ BOOL DeleteTimerQueueEx(HANDLE queue, HANDLE event)
         return fail(ERROR_INVALID_HANDLE);
     if (is_at_latch())
         return FALSE;
+    take_latch(&pools_latch);
+    group->is_deleted = true;
     if (event == INVALID_HANDLE_VALUE) {
+        give_latch(&pools_latch);
         CloseThreadpoolCleanupGroupMembers(group, FALSE, NULL);
         CloseThreadpoolCleanupGroup(group);
         return TRUE;
     }
-    take_latch(&pools_latch);
     group->done = event;
     const bool is_busy = close_timers(group);
     struct task *timers_of_it = is_busy ? NULL : take_members(group);
