@@ -229,6 +229,7 @@ struct process {
     pid_t id;
     bool looks;             /* threads look at a word before they sleep on it: there are several processors */
     bool has_barriers;      /* a thread can make each other pass a barrier, so the lock may favour one (lock.c). Written under the lock, once several run */
+    DWORD kept;             /* in a child that was forked the id of who forked, which has that still, or 0 */
     bool is_forked;         /* this is a child of a process with threads that are not here, */
     struct runner *lost;    /* these among them */
     uint64_t start;         /* the dispatcher's moment 0, on the monotonic clock */

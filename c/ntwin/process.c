@@ -143,11 +143,19 @@ HANDLE GetCurrentThread(void)
     return CURRENT_THREAD;
 }
 
-/* A thread that CreateThread did not make has an odd one, of its number in the system, and takes no seat for it. */
+/* That of a thread that CreateThread did not make: of its number in the system, and odd. (In a child that was forked the thread that has kept its id may
+ * have had that number in the parent, whose number it is no longer: then it is even, and no multiple of 4.) */
+static DWORD id_by_system(void)
+{
+    const DWORD number = (DWORD)gettid(), id = number * 2 + 1;
+    return id != process.kept ? id : number * 4 + 2;
+}
+
+/* It takes no seat for it. */
 DWORD GetCurrentThreadId(void)
 {
     if (own.id == 0)
-        own.id = own.seat != NULL && own.seat->start != NULL ? id_of(own.seat) : (DWORD)gettid() * 2 + 1;
+        own.id = own.seat != NULL && own.seat->start != NULL ? id_of(own.seat) : id_by_system();
     return own.id;
 }
 

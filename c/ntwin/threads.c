@@ -193,29 +193,27 @@ static void leave_last(void *round)
         leave(own.seat);
 }
 
-/* The caller, which keeps its seat in a child, is known by the numbers that it has there: what it asks for its own thread is none of its parent's. */
+/* The caller, which keeps its seat in a child, is known by the system's number there: what it asks for its own thread is none of its parent's. */
 static void begin_life_in_child(void)
 {
     if (own.seat == NULL)
         return;
-    own.seat->life.id = GetCurrentThreadId();
     own.seat->life.task = gettid();
 }
 
-/* A child is forked, and this is its only thread. If others had seats or were in a call, none of them is here to end what it began: the
- * child then no longer has a seat, and gets none. */
+/* A child is forked, and this is its only thread: the one that forked, with its id, and with each critical section that it owns. If others had seats or
+ * were in a call, none of them is here to end what it began: the child then no longer has a seat, and gets none. */
 static void note_fork(void)
 {
     const bool is_opening = pthread_mutex_trylock(&process.opening) != 0;
     stop_looking();
     leave_schedule();
     forget_other_threads(own.id);
-    own.id = 0;
+    process.kept = own.id;
     process.lost = waiting.left;
     waiting.left = NULL;
     if (!is_opening)
         pthread_mutex_unlock(&process.opening);
-    own.mark = 0;
     if (is_free_in_child() && !is_opening && waiting.alive == (own.seat != NULL)) {
         begin_life_in_child();
         return;

@@ -1,9 +1,13 @@
 /* Critical sections and SRW locks: what each call answers with its last error, row by row, from Microsoft's pages; and each under threads, with
  * what must always hold. */
+#ifndef _GNU_SOURCE
+#define _GNU_SOURCE
+#endif
 #include <windows.h>
 
 #include "crowd.h"
 
+#include <sys/syscall.h>
 #include <sys/wait.h>
 #include <unistd.h>
 
@@ -104,25 +108,96 @@ static void crowd_in_a_section(void)
     DeleteCriticalSection(&SECTION);
 }
 
-/* A child owns what it enters by its own id, and what its parent had entered is another thread's. */
+static CRITICAL_SECTION HELD, FREE_ONE;
+
+/* The number in the system of a thread that asks for its id; 0 for its own. */
+static pid_t NUMBER;
+
+pid_t gettid(void)
+{
+    return NUMBER != 0 ? NUMBER : (pid_t)syscall(SYS_gettid);
+}
+
+static void *tries_held(void *none)
+{
+    (void)none;
+    return TryEnterCriticalSection(&HELD) ? "had" : NULL;
+}
+
+/* Whether a thread that is made in a child, and has the number there that this one had in the parent, is another one. */
+static bool is_another(pid_t number)
+{
+    pthread_t thread;
+    void *had = NULL;
+    NUMBER = number;
+    return pthread_create(&thread, NULL, tries_held, NULL) == 0 && pthread_join(thread, &had) == 0 && had == NULL;
+}
+
+/* The thread that forked is the same in the child, as it is for POSIX: it owns what it had entered, by the same id. */
+static int enters_in_child(DWORD parent, pid_t number)
+{
+    if (!TryEnterCriticalSection(&HELD))
+        return 4;
+    EnterCriticalSection(&HELD);
+    EnterCriticalSection(&FREE_ONE);
+    const HANDLE id = (HANDLE)(ULONG_PTR)GetCurrentThreadId();
+    if (id != (HANDLE)(ULONG_PTR)parent || FREE_ONE.OwningThread != id || HELD.OwningThread != id || HELD.RecursionCount != 3)
+        return 1;
+    if (!is_another(number))
+        return 2;
+    for (int i = 0; i < 3; i++)
+        LeaveCriticalSection(&HELD);
+    return HELD.LockCount == -1 ? 7 : 3;
+}
+
+static int status_of(pid_t child)
+{
+    int status = 0;
+    must(child > 0 && waitpid(child, &status, 0) == child);
+    return WIFEXITED(status) ? WEXITSTATUS(status) : 1000;
+}
+
 static void entered_after_a_fork(void)
 {
-    static CRITICAL_SECTION held, free_one;
-    int status = 0;
-    InitializeCriticalSection(&held);
-    InitializeCriticalSection(&free_one);
-    EnterCriticalSection(&held);
+    InitializeCriticalSection(&HELD);
+    InitializeCriticalSection(&FREE_ONE);
+    EnterCriticalSection(&HELD);
     const DWORD parent = GetCurrentThreadId();
-    const pid_t child = fork();
+    const pid_t number = gettid(), child = fork();
     if (child == 0) {
-        EnterCriticalSection(&free_one);
-        const DWORD id = GetCurrentThreadId();
-        _exit(id != parent && free_one.OwningThread == (HANDLE)(ULONG_PTR)id && !TryEnterCriticalSection(&held) ? 7 : 1);
+        /* So it is in a child of the child. */
+        const pid_t second = fork();
+        _exit(second == 0 || status_of(second) == 7 ? enters_in_child(parent, number) : 5);
     }
-    must(child > 0 && waitpid(child, &status, 0) == child);
-    IS(WIFEXITED(status) ? WEXITSTATUS(status) : 0, 7);
-    SECTION_IS(held, 0, 1, parent);
-    LeaveCriticalSection(&held);
+    IS(status_of(child), 7);
+    SECTION_IS(HELD, 0, 1, parent);
+    LeaveCriticalSection(&HELD);
+}
+
+static pthread_barrier_t ENTERED;
+
+static void *enters_held(void *none)
+{
+    (void)none;
+    EnterCriticalSection(&HELD);
+    pthread_barrier_wait(&ENTERED);
+    pthread_barrier_wait(&ENTERED);
+    LeaveCriticalSection(&HELD);
+    return NULL;
+}
+
+/* What another thread had entered is still that one's. */
+static void entered_by_another_at_a_fork(void)
+{
+    pthread_t other;
+    must(pthread_barrier_init(&ENTERED, NULL, 2) == 0 && pthread_create(&other, NULL, enters_held, NULL) == 0);
+    pthread_barrier_wait(&ENTERED);
+    const pid_t child = fork();
+    if (child == 0)
+        _exit(TryEnterCriticalSection(&HELD) ? 1 : 7);
+    IS(status_of(child), 7);
+    pthread_barrier_wait(&ENTERED);
+    must(pthread_join(other, NULL) == 0);
 }
 
 /* ---- SRW locks. */
@@ -235,6 +310,7 @@ int main(void)
     crowd_in_a_section();
     DeleteCriticalSection(&SECTION);
     entered_after_a_fork();
+    entered_by_another_at_a_fork();
     srw_locks();
     shared_by_the_most();
     crowd_over_a_lock();
