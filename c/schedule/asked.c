@@ -45,6 +45,15 @@ static bool take_path(char to[512], const char *path)
     return path[0] != 0 && snprintf(to, 512, "%s", path) < 512;
 }
 
+/* The same of a file that is written as the run ends: the program may be in another folder by then. */
+static bool take_path_from_here(char to[512], const char *path)
+{
+    char here[512];
+    if (path[0] == 0 || path[0] == '/')
+        return take_path(to, path);
+    return getcwd(here, sizeof here) != NULL && snprintf(to, 512, "%s/%s", here, path) < 512;
+}
+
 /* Reads the bound of a search, and how many runs it may make. */
 static bool read_search(const char *text)
 {
@@ -83,12 +92,12 @@ static bool read_strategy(const char *word)
     return count > has_depth && (!has_depth || schedule.depth > 0) && (count < 2u + has_depth || schedule.count > 0);
 }
 
-/* A number of seconds or minutes. */
+/* A number of seconds or minutes. (In nanoseconds it is one of 64 bits.) */
 static bool read_time(const char *text, double *time)
 {
     char *end;
     *time = strtod(text, &end);
-    return end != text && *end == 0 && *time > 0 && *time < 1e9;
+    return end != text && *end == 0 && *time > 0 && *time < 1e8;
 }
 
 /* Reads which part of a search this is, from 0 on, and of how many: K,N. */
@@ -119,7 +128,7 @@ static bool read_option(const char *option)
     else if (length == 8 && strncmp(option, "seconds=", length) == 0 && read_time(value, &time))
         schedule.most_seconds = time;
     else if (length == 4 && strncmp(option, "out=", length) == 0)
-        return take_path(schedule.out, value);
+        return take_path_from_here(schedule.out, value);
     else if (length == 6 && strncmp(option, "trace=", length) == 0)
         return take_path(schedule.traced, value);
     else if (length == 6 && strncmp(option, "turns=", length) == 0)

@@ -50,7 +50,7 @@ int main_of_differs(int count, char **words)
     return 0;
 }
 
-/* It closes all that it did not open, opens a file again and again, and calls. */
+/* It closes all that it did not open, opens a file again and again, calls, and goes to another folder. */
 int main_of_closes_all(int count, char **words)
 {
     HANDLE event = CreateEventA(NULL, TRUE, FALSE, NULL);
@@ -59,6 +59,7 @@ int main_of_closes_all(int count, char **words)
     for (int i = 3; i < MOST_FILES; i++)
         EXPECT(open(count > 1 ? words[1] : "/dev/null", O_WRONLY | O_CREAT | O_TRUNC | O_APPEND, 0666) == i);
     SetEvent(event);
+    EXPECT(chdir("/proc") == 0);
     return 0;
 }
 
