@@ -91,17 +91,29 @@ NTW_INTERNAL int hooked_accept(int file, __SOCKADDR_ARG address, socklen_t *leng
     return real.accept(file, address, length);
 }
 
-/* Nobody can go on, and nothing is due. Waits half as long as a run may be without a step, where threads wait for input: by the system's clock.
- * Answers whether one can go on. */
+/* Whether the program handles alarms, or did: that may set an event, and let a thread go on. (Of one that has rung nobody sees whether it is yet to be
+ * handled; and a handler that is for one alarm alone is none from then on.) */
+static bool handles_alarms(void)
+{
+    static bool does;
+    struct sigaction now;
+    does |= sigaction(SIGALRM, NULL, &now) == 0 && now.sa_handler != SIG_DFL && now.sa_handler != SIG_IGN;
+    return does;
+}
+
+/* Nobody can go on, and nothing is due. Waits half as long as a run may be without a step, where threads wait for input, or an alarm may ring: by the
+ * system's clock. Answers whether one can go on. */
 NTW_INTERNAL bool awaits_outside(void)
 {
     const struct timespec pause = { .tv_nsec = 1000000 };
     const uint64_t began = real_moment();
     bool waits = true;
     while (waits && (double)(real_moment() - began) < schedule.most_seconds * MOMENTS_PER_SECOND / 2) {
-        waits = false;
+        waits = handles_alarms();
         for (uint32_t i = 0; i < schedule.threads_count; i++) {
             const struct blocked *blocked = schedule.threads[i]->blocked;
+            if (can_go_on(i))
+                return true;
             if (schedule.threads[i]->state != IS_SLEEPING || blocked == NULL || blocked->has_come != has_input)
                 continue;
             if (has_input(blocked->object))

@@ -1,9 +1,14 @@
 /* Programs by which run tries what holds of each run. The main function of the program NAME is main_of_NAME. */
+#ifndef _GNU_SOURCE
+#define _GNU_SOURCE
+#endif
 #include "../explored.h"
 
 #include <fcntl.h>
 #include <pthread.h>
+#include <signal.h>
 #include <string.h>
+#include <sys/time.h>
 #include <sys/wait.h>
 #include <unistd.h>
 
@@ -150,6 +155,26 @@ int main_of_thousand(int count, char **words)
     HANDLE event = CreateEventA(NULL, TRUE, FALSE, NULL);
     for (int i = 1; i < calls; i++)
         SetEvent(event);
+    return 0;
+}
+
+static HANDLE rung;
+
+static void ring(int unused)
+{
+    UNUSED(unused);
+    SetEvent(rung);
+}
+
+/* What handles alarms sets an event, for which one thread waits and another for that one. (One call of it may be refused, so there are more.) */
+int main_of_rings(void)
+{
+    const struct sigaction rings = { .sa_handler = ring };
+    const struct itimerval soon = { .it_value.tv_usec = 20000, .it_interval.tv_usec = 20000 };
+    rung = CreateEventA(NULL, TRUE, FALSE, NULL);
+    HANDLE other = begin(wait_for, rung);
+    EXPECT(sigaction(SIGALRM, &rings, NULL) == 0);
+    EXPECT(setitimer(ITIMER_REAL, &soon, NULL) == 0 && WaitForSingleObject(other, INFINITE) == WAIT_OBJECT_0);
     return 0;
 }
 
