@@ -8,6 +8,14 @@ enum { LONGEST_LINE_READ = 256 };
 static const char first_line[] = "; ntwin-schedule 1";
 static const char free_time[] = " time=free", still_time[] = " time=still";
 
+/* What was asked for is not written there, and errno says why. */
+NTW_INTERNAL void say_unwritten(const char *path)
+{
+    char line[768];
+    snprintf(line, sizeof line, "ntwin: %s is not written: %s\n", path, strerror(errno));
+    say(line);
+}
+
 NTW_INTERNAL void write_decisions(const char *path)
 {
     char text[48];
@@ -18,11 +26,8 @@ NTW_INTERNAL void write_decisions(const char *path)
         put_decision(text, &schedule.shared->made[i]);
         fprintf(file, "%s\n", text);
     }
-    if (file == NULL || fclose(file) != 0) {
-        char line[768];
-        snprintf(line, sizeof line, "ntwin: %s is not written: %s\n", path, strerror(errno));
-        say(line);
-    }
+    if (file == NULL || fclose(file) != 0)
+        say_unwritten(path);
 }
 
 /* What was asked for can't be done. */
@@ -71,7 +76,8 @@ static void take_decision(const char *path, uint32_t number, const char *line)
     if (shared->wanted_count == MOST_DECISIONS)
         refuse("ntwin: NTWIN_SCHEDULE: %s:%u: more than %d decisions", path, number, MOST_DECISIONS);
     if (!read_decision(line, &shared->wanted[shared->wanted_count++]))
-        refuse("ntwin: NTWIN_SCHEDULE: %s:%u: no decision: 't1 12 t2' (at its point 12, t1 has t2 go on) or 't1 12 clock' can stand there", path, number);
+        refuse("ntwin: NTWIN_SCHEDULE: %s:%u: no decision: 't1 12 t2' (at its point 12, t1 has t2 go on) or 't1 12 clock' can stand there", path,
+               number);
 }
 
 NTW_INTERNAL void read_decisions(const char *path)

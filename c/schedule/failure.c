@@ -111,6 +111,8 @@ NTW_INTERNAL void begin_trace(void)
     schedule.trace_from = schedule.shared->steps > MOST_TRACED ? schedule.shared->steps - MOST_TRACED : 0;
     if (schedule.traced[0] != 0)
         schedule.trace = open_output(schedule.traced, 0);
+    if (schedule.traced[0] != 0 && schedule.trace.number < 0)
+        say_unwritten(schedule.traced);
 }
 
 /* The run of this name, which is this one of all, has failed. */

@@ -269,6 +269,7 @@ NTW_INTERNAL void stand_in_for_all(void);
 
 /* ---- decisions.c */
 
+NTW_INTERNAL void say_unwritten(const char *path);
 NTW_INTERNAL void write_decisions(const char *path);
 __attribute__((noreturn, format(printf, 1, 2))) NTW_INTERNAL void refuse(const char *format, ...);
 NTW_INTERNAL void read_decisions(const char *path);
