@@ -15,9 +15,16 @@ NTW_INTERNAL HANDLE give_handle(uint32_t number)
     return (HANDLE)(uintptr_t)value;
 }
 
-/* The number of a handle that is no pseudo handle; NO_HANDLE if the program has no such handle. Under the lock, or where the program has that handle
- * for as long as its call lasts. */
+/* The number of a handle that is no pseudo handle, under the lock; NO_HANDLE if the program has no such handle. (It is compared where it lies, which
+ * spares a wait for 64 objects as many loads.) */
 NTW_INLINE uint32_t listed_number_of(HANDLE handle)
+{
+    const uint32_t value = (uint32_t)(uintptr_t)handle, number = value >> 2 & (NT_MAXIMUM_HANDLES - 1);
+    return waiting.given[number] == (value & ~3u) ? number : NO_HANDLE;
+}
+
+/* The same without the lock, where the program has that handle for as long as its call lasts. */
+NTW_INLINE uint32_t unlocked_number_of(HANDLE handle)
 {
     const uint32_t value = (uint32_t)(uintptr_t)handle, number = value >> 2 & (NT_MAXIMUM_HANDLES - 1);
     return __atomic_load_n(&waiting.given[number], __ATOMIC_RELAXED) == (value & ~3u) ? number : NO_HANDLE;

@@ -209,6 +209,7 @@ struct wanted {
 
 NTW_INTERNAL HANDLE give_handle(uint32_t number);
 NTW_INTERNAL uint32_t listed_number_of(HANDLE handle);
+NTW_INTERNAL uint32_t unlocked_number_of(HANDLE handle);
 NTW_INTERNAL uint32_t number_of(const struct seat *caller, HANDLE handle);
 NTW_INTERNAL uint16_t thread_of(uint32_t number);
 NTW_INTERNAL struct seat *seat_of(uint32_t number);

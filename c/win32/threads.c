@@ -21,7 +21,7 @@ NTW_INTERNAL struct seat *begin_with_thread(HANDLE handle, struct seat **caller)
  * before its code was read or since; or a scheduler has to learn of it, or a sanitizer. */
 static inline bool read_exit_code(HANDLE thread, DWORD *code)
 {
-    const uint32_t number = listed_number_of(thread);
+    const uint32_t number = unlocked_number_of(thread);
     if (number == NO_HANDLE || kind_of(number) != KIND_THREAD || own.seat == NULL || by_schedule() || is_told())
         return false;
     struct ending *ending = &endings[thread_of(number)];
