@@ -268,7 +268,8 @@ def unproved(top, builds, pool):
 
     def built(progress):
         found = unproved_build(builds, progress)
-        in_c.begin()
+        if found.is_made:
+            in_c.begin()
         return found
 
     return [
