@@ -176,19 +176,21 @@ int case_stale_handle(void)
             ended += CloseHandle(thread) && !CloseHandle(thread);
     }
     IS(ended, 4200);
-    /* (As many at once as there may be beside the first one, twice.) */
+    /* (As many at once as there may be beside the first one, twice; fewer by ThreadSanitizer, to which each of many costs the more.) */
     for (int round = 0; round < 2; round++) {
-        static HANDLE threads[4095];
+        enum { AT_ONCE = HAS_THREAD_SANITIZER ? 400 : 4095 };
+        static HANDLE threads[AT_ONCE];
         ResetEvent(other);
-        for (int i = 0; i < 4095; i++)
+        for (int i = 0; i < AT_ONCE; i++)
             started += (threads[i] = CreateThread(NULL, 65536, wait_for, other, STACK_SIZE_PARAM_IS_A_RESERVATION, NULL)) != NULL;
         SetEvent(other);
-        for (int i = 0; i < 4095; i++)
+        for (int i = 0; i < AT_ONCE; i++)
             WaitForSingleObject(threads[i], INFINITE);
-        for (int i = 0; i < 4095; i++)
+        for (int i = 0; i < AT_ONCE; i++)
             CloseHandle(threads[i]);
+        started -= AT_ONCE;
     }
-    IS(started, 8190);
+    IS(started, 0);
     IS(opened(61000), 61000);
     IS(CloseHandle(other), TRUE);
     return counted();
