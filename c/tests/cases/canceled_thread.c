@@ -10,10 +10,16 @@ const char *__tsan_default_options(void)
     return "report_thread_leaks=0";
 }
 
-/* (AddressSanitizer takes its stack for signals away as a thread ends, and does that wrongly where the thread was canceled so.) */
+/* (AddressSanitizer takes its stack for signals away as a thread ends, and does that wrongly where the thread was canceled so. And it asks for that stack
+ * itself where the frames that the thread has left count as bad memory.) */
 const char *__asan_default_options(void)
 {
     return "use_sigaltstack=0";
+}
+
+const char *__asan_default_suppressions(void)
+{
+    return "interceptor_name:sigaltstack";
 }
 
 static HANDLE never, mutex, timer;
