@@ -59,7 +59,7 @@ static bool read_decision(const char *line, struct decision *it)
 
 /* Reads a line without its end: of a comment no more than there is room for, and else it goes on as the next one, and is no decision. A zero in it
  * stands as a letter that no decision has. False where there is none. */
-static bool read_line(FILE *file, char line[LONGEST_LINE_READ])
+static bool read_decisions_line(FILE *file, char line[LONGEST_LINE_READ])
 {
     size_t length = 0;
     int letter = 0;
@@ -86,12 +86,12 @@ NTW_INTERNAL void read_decisions(const char *path)
     FILE *file = fopen(path, "re");
     if (file == NULL)
         refuse("ntwin: NTWIN_SCHEDULE: %s: %s", path, strerror(errno));
-    const bool has_line = read_line(file, line);
+    const bool has_line = read_decisions_line(file, line);
     if (!ferror(file) && (!has_line || strncmp(line, first_line, sizeof first_line - 1) != 0))
         refuse("ntwin: NTWIN_SCHEDULE: %s: no file of decisions: its first line is '%s', as ntwin-explore writes it", path, first_line);
     schedule.is_free |= strstr(line, free_time) != NULL;
     schedule.is_still |= strstr(line, still_time) != NULL;
-    for (uint32_t number = 2; read_line(file, line); number++)
+    for (uint32_t number = 2; read_decisions_line(file, line); number++)
         if (line[0] != ';' && line[0] != 0)
             take_decision(path, number, line);
     if (ferror(file))
