@@ -134,14 +134,25 @@ BOOLEAN TryAcquireSRWLockExclusive(PSRWLOCK lock)
     return FALSE;
 }
 
-void AcquireSRWLockExclusive(PSRWLOCK lock)
+/* Where a scheduler comes first, or the lock is not free. (Apart, so that the quick way has no frame.) */
+__attribute__((noinline)) static void acquire_slowly(PSRWLOCK lock)
 {
-    may_switch_at(lock);
     struct srw *srw = srw_of(lock);
     uint32_t state = 0;
-    if (!swap_state(srw, &state, ALONE))
+    may_switch_at(lock);
+    if (!by_schedule() || !swap_state(srw, &state, ALONE))
         wait_alone(srw);
     comes_after(&srw->state);
+}
+
+void AcquireSRWLockExclusive(PSRWLOCK lock)
+{
+    struct srw *srw = srw_of(lock);
+    uint32_t state = 0;
+    if (by_schedule() || !swap_state(srw, &state, ALONE))
+        acquire_slowly(lock);
+    else
+        comes_after(&srw->state);
 }
 
 void ReleaseSRWLockExclusive(PSRWLOCK lock)
