@@ -28,8 +28,8 @@ enum {
     MOST_SCHEDULED = 4096, /* threads in a run */
     NO_ONE = 0xFFFF,
     THE_CLOCK = 0xFFFE,    /* goes on: a deadline comes */
-    MOST_DECISIONS = 1 << 17,
-    DECISION_SLOTS = 1 << 18,
+    MOST_DECISIONS = 1 << 18, /* of a run: which ends with the last of them, so that its file has all */
+    DECISION_SLOTS = 1 << 19,
     MOST_CHANGES = 64,     /* of priorities, in a run */
     STEP_TAKES = 10,       /* in units of 100 ns */
     MOST_POINTS_IN_A_ROW = 2000,  /* points of one thread while others can go on, where chance or priorities decide */

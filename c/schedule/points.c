@@ -88,6 +88,8 @@ static struct scheduled *choose(enum point point)
         tell_of_turn(point, chosen, chosen != usual);
         if (chosen == NO_ONE && !is_last)
             end_waiting(HANGS);
+        if (schedule.shared->made_count == MOST_DECISIONS)
+            end_waiting(NEVER_ENDS);
         if (chosen != THE_CLOCK)
             return chosen != NO_ONE ? schedule.threads[chosen] : NULL;
     }

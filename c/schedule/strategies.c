@@ -132,7 +132,7 @@ NTW_INTERNAL uint32_t decide(enum point point, uint32_t usual, const struct stan
         chosen = next_in_turn();
     if (chosen != me->number)
         schedule.in_a_row = 0;
-    if (chosen != usual && schedule.shared->made_count < MOST_DECISIONS)
+    if (chosen != usual)
         schedule.shared->made[schedule.shared->made_count++] = (struct decision){ (uint16_t)me->number, (uint16_t)chosen, me->ordinal };
     schedule.shared->preemptions += chosen != usual && point == AT_CALL;
     return chosen;

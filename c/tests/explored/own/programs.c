@@ -114,6 +114,22 @@ int main_of_never_ends(int count, char **words)
     return 0;
 }
 
+static DWORD WINAPI set_for_good(LPVOID event)
+{
+    while (!is_done)
+        SetEvent(event);
+    return 0;
+}
+
+/* Three threads never end, of which each can go on at every point. */
+int main_of_set_for_good(void)
+{
+    HANDLE event = CreateEventA(NULL, TRUE, FALSE, NULL);
+    begin(set_for_good, event);
+    begin(set_for_good, event);
+    return (int)set_for_good(event);
+}
+
 static CRITICAL_SECTION section;
 
 static DWORD WINAPI set_in_section(LPVOID event)
