@@ -36,7 +36,8 @@ use Rattle.nt_mail.specs.Knowledge.{latest}
 use Rattle.nt_mail.proofs.Calls.{same_push, after_call, after_grant, one_or, own_thread}
 use Rattle.nt_mail.proofs.Taken.{latest-push}
 use Rattle.nt_front.specs.Runs.{granted, entries_of, journal_of, IsRunFrom, IsHistoryFrom, LeadTo, Agree, AreArmed}
-use Rattle.nt_front.specs.Books.{Stands, ledger, entries_by, IsOfCall}
+use Rattle.nt_front.specs.Books.{Ledger, Stands, ledger, entries_by, IsOfCall, IsFull}
+use Rattle.std.specs.FinMap.{len}
 
 -- ---- the journal as a history
 
@@ -408,10 +409,19 @@ below d n lawful same t pending = let known = who_waits d t lawful pending in om
 pub last_is : (es : List Entry) (e : Entry) (all : List Entry) (place : ℕ) (x : Entry) → x ≡ get_or all place x → all ≡ es ++ e ∷ [] → place ≡ length es → x ≡ e
 last_is es e all place x value is here = value ∙ (ap (λ (l : List Entry). get_or l place x) is ∙ (ap (λ n. get_or (es ++ e ∷ []) n x) here ∙ get_or-append_seam es e [] x))
 
--- there is room for an entry, and one more for each pending wait, and so many numbers are left
-pub room_left : (entries room next pending : ℕ) (full : Bool) → (full ≡ true) ↔ (min (room - entries) (ENTRY_LIMIT - next) < 1 + pending) → full ≡ false → (entries + 1 + pending ≤ room) × (next + 1 + pending ≤ ENTRY_LIMIT)
-room_left entries room next pending full exactly free =
-    let left = min (room - entries) (ENTRY_LIMIT - next) in
+-- what is left below the end is the fewer of places and numbers
+pub left_is : (end first entries room : ℕ) → end ≡ min (first + room) ENTRY_LIMIT → end - (first + entries) ≡ min (room - entries) (ENTRY_LIMIT - (first + entries))
+left_is end first entries room ends = omega (arith, ends)
+
+-- a book that is not full has room for an entry, and one more for each pending wait, and as many numbers are left
+pub room_left : (life : WithSpare) (base : Dispatcher) (written : List Entry) (first : ℕ) (journal : List Entry) (room : ℕ) (b : Ledger) (full : Bool)
+    → ledger life base written first journal room ≡ b → (full ≡ true) ↔ IsFull b → full ≡ false
+    → (length journal + 1 + len (state life.core).waits ≤ room) × (first + length journal + 1 + len (state life.core).waits ≤ ENTRY_LIMIT)
+room_left life base written first journal room b full is told free =
+    let exactly = subst (λ (it : Ledger). (full ≡ true) ↔ IsFull it) (sym is) told in
+    let pending = len (state life.core).waits in
+    let next = first + length journal in
+    let left = min (room - length journal) (ENTRY_LIMIT - next) in
     let enough : 1 + pending ≤ left = ⊎_elim
     (λ (more : (nat_le (1 + pending) left ≡ true) × (1 + pending ≤ left)). more.1)
     (λ (less : (nat_le (1 + pending) left ≡ false) × (left < 1 + pending)). absurd (false≢true (sym free ∙ exactly.1 less.1)))

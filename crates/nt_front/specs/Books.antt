@@ -185,8 +185,8 @@ pub record IsBlank (b : Prepared) (all : Gathered) (life : WithSpare) (journal :
   pub few : b.threads ≤ MAX_THREADS
 
 -- what a book keeps: the headline, entries that agree with the state, the threads and the room of its front, places for that room,
--- numbers for the entries, and a seat that knows all entries written
-pub record IsBook (b : Ledger) (count capacity : ℕ) (dispatcher : Seat) (front : Prepared) : Type 0 where
+-- numbers for the entries, the first number that no entry can have, and a seat that knows all entries written
+pub record IsBook (b : Ledger) (count capacity end : ℕ) (dispatcher : Seat) (front : Prepared) : Type 0 where
   pub stands : Stands b
   pub agree : Agree count b.written (state b.core)
   pub threads : count ≡ front.threads
@@ -195,5 +195,6 @@ pub record IsBook (b : Ledger) (count capacity : ℕ) (dispatcher : Seat) (front
   pub places : b.room ≤ capacity
   pub next : length b.written + 1 ≡ next_number b
   pub numbers : next_number b ≤ ENTRY_LIMIT
+  pub ends : end ≡ min (b.first + b.room) ENTRY_LIMIT
   pub seat : dispatcher ≡ record { table = front.table; written = b.written; published = accepted b.written }
   pub words : front.table.words ≡ count + 1

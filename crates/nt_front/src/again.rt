@@ -7,7 +7,7 @@ ghost use Rattle.nt_front.specs.Books.{IsEntered, IsFull, WritesBegin};
 ghost use Rattle.nt_front.specs.Polls.{IsBegunAgain};
 ghost use Rattle.nt_front.specs.declared.again.Unbegun.TheVariants.{NoRoom};
 
-use crate::book::{Book, is_full};
+use crate::book::Book;
 use crate::front::Front;
 use crate::hold::{Ended, Hold, Pass};
 use crate::named::Named;
@@ -64,7 +64,7 @@ impl<N: Named> Book<N> {
     {
         let place = self.journal.len();
         let entry = self.first + place as u64;
-        if is_full(place, self.room, entry, self.life.core().pending()) {
+        if self.is_full(entry) {
             let _ = self.refusal(mail, caller);
             return Err(Unbegun::NoRoom);
         }

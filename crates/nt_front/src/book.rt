@@ -10,7 +10,7 @@ ghost use Rattle.nt_answers.specs.Answers.{is_done};
 ghost use Rattle.nt_answers.specs.Kinds.{is_answer};
 ghost use Rattle.nt_mail.specs.declared.knowledge.Asked.{Asked};
 ghost use Rattle.nt_mail.specs.Entries.{accepted};
-ghost use Rattle.nt_front.specs.Books.{Stands, WritesCall, WritesTick, IsEntered, IsFull, WasFull, HandsOut, WasHandedOut, gives_again, ledger};
+ghost use Rattle.nt_front.specs.Books.{Stands, WritesCall, WritesTick, IsEntered, IsFull, WasFull, HandsOut, WasHandedOut, gives_again, ledger, next_number};
 ghost use Rattle.nt_front.specs.Wakes.{Wakes, granted_of};
 
 use crate::hold::Hold;
@@ -38,7 +38,9 @@ pub struct Book<N: Named> {
     base: Core,
     pub(crate) first: u64,
     pub(crate) journal: Vec<PackedEntry>,
-    pub(crate) room: usize,
+    room: usize,
+    /// The first number for whose entry there is no place, or which no entry can have.
+    end: u64,
     threads: u32,
     pub(crate) dispatcher: DispatcherSeat,
     of: PhantomData<N>,
@@ -57,7 +59,7 @@ impl<N: Named> Model for Book<N> {
     ghost view = { λ b. ledger b.life b.base b.dispatcher.written b.first b.journal.items b.room };
 
     ghost invariant = { λ b. IsBook (ledger b.life b.base b.dispatcher.written b.first b.journal.items b.room) b.threads
-        (vec_capacity b.journal) b.dispatcher N.front };
+        (vec_capacity b.journal) b.end b.dispatcher N.front };
 }
 
 impl<N: Named> Book<N> {
@@ -106,7 +108,7 @@ impl<N: Named> Book<N> {
     {
         let place = self.journal.len();
         let entry = self.first + place as u64;
-        if is_full(place, self.room, entry, self.life.core().pending()) {
+        if self.is_full(entry) {
             return Err(self.refusal(mail, caller));
         }
         let who = caller.thread();
@@ -176,7 +178,7 @@ impl<N: Named> Book<N> {
     {
         let place = self.journal.len();
         let entry = self.first + place as u64;
-        if is_full(place, self.room, entry, self.life.core().pending()) {
+        if self.is_full(entry) {
             return Err(self.refusal(mail, caller));
         }
         let by = caller.thread();
@@ -204,6 +206,15 @@ impl<N: Named> Book<N> {
         publish(mail, &mut self.dispatcher, moment, &result);
         let unwoken = Unwoken::of(self.life.core());
         Ok((Receipt { entry, result }, unwoken))
+    }
+
+    /// There is no place, or no number, for one entry and one more for each pending wait. `next` is the number of the next entry.
+    #[inline(always)]
+    pub(crate) fn is_full(&self, next: u64) -> bool
+        requires { next ≡ next_number self.now }
+        ensures { (result ≡ true) ↔ IsFull self.now }
+    {
+        self.end.saturating_sub(next) <= self.life.core().pending() as u64
     }
 
     /// The waits that the last call or tick ended.
@@ -240,6 +251,7 @@ impl<N: Named> Book<N> {
         let entries = mem::replace(&mut self.journal, journal);
         let base = mem::replace(&mut self.base, base);
         self.first = first + entries.len() as u64;
+        self.end = end_of(self.first, self.room);
         Part {
             first,
             base,
@@ -294,6 +306,7 @@ impl<N: Named> Book<N> {
             first: 1,
             journal,
             room,
+            end: end_of(1, room),
             threads,
             dispatcher,
             of: PhantomData,
@@ -323,6 +336,7 @@ impl<N: Named> Book<N> {
             first,
             journal,
             room: _,
+            end: _,
             threads: _,
             dispatcher,
             of: _,
@@ -337,14 +351,11 @@ impl<N: Named> Book<N> {
     }
 }
 
-/// There is no place, or no number, for one entry and one more for each pending wait.
-pub(crate) fn is_full(entries: usize, room: usize, next: u64, pending: usize) -> bool
-    requires { next ≤ ENTRY_LIMIT }
-    ensures { (result ≡ true) ↔ (min (room - entries) (ENTRY_LIMIT - next) < 1 + pending) }
+/// The first number for whose entry there is no place, or which no entry can have, if places begin at `first`.
+fn end_of(first: u64, room: usize) -> u64
+    ensures { result ≡ min (first + room) ENTRY_LIMIT }
 {
-    let places = room.saturating_sub(entries) as u64;
-    let numbers = ENTRY_LIMIT - next;
-    places.min(numbers) <= pending as u64
+    first.saturating_add(room as u64).min(ENTRY_LIMIT)
 }
 
 /// Whether a wait of the thread pended before its call, which was answered so. A call is accepted of a thread alone that waits for

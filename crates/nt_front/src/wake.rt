@@ -3,7 +3,7 @@
 //! Nothing can be proved of a wake-up, so types keep that none is forgotten. Whoever makes a call or tick is given an `Unwoken`, which can't
 //! be let go. With the grants that were left it becomes a `ToWake`, which `Bells::ring` alone takes; if there are none it is spent.
 //! A thread sleeps by a `Ticket` alone, which was made before the poll that found no grant.
-ghost use Rattle.std.specs.Prelude.{◌≡◌, [], length, IfOk, IfErr, IfSome, IfNone, is_some, nat_lt};
+ghost use Rattle.std.specs.Prelude.{◌≡◌, length, IfOk, IfErr, IfSome, is_some, nat_lt};
 ghost use Rattle.nt_status.specs.declared.refusal.Refusal.TheVariants.{Memory};
 ghost use Rattle.nt_front.specs.Marks.{IsMarkedToo, AreMarks};
 ghost use Rattle.nt_front.specs.Polls.{IsStill};
@@ -93,8 +93,8 @@ impl Unwoken {
     /// The same, or None where these grants are none, and so there is nobody to wake.
     pub(crate) fn unless_none(self, grants: &[Grant]) -> Option<Unwoken>
         requires { grants.now ≡ granted_of self }
-        ensures none { IfNone result (granted_of self ≡ []) }
-        ensures some { IfSome result (λ unwoken. granted_of unwoken ≡ granted_of self) }
+        ensures exactly { is_some result ≡ nat_lt 0 (length (granted_of self)) }
+        ensures same { IfSome result (λ unwoken. granted_of unwoken ≡ granted_of self) }
     {
         if grants.is_empty() {
             let Unwoken { left: _ } = self;

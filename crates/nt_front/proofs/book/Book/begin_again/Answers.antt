@@ -69,7 +69,7 @@ invariant_of-self-2 g c =
     let number : c.from-number.result ≡ t = c.from-number.ensures ∙ c.get.ensures in
     let both = begun_this old life.spare c.from-number.result h after.core.grants new c.in-Some.ensures.begun in
     let begun = subst (λ (x : ℕ). BeginsAgain old x h (Ok (Reply.Handle h)) after.core.grants new) number both.1 in
-    let waited = subst (λ (x : ℕ). c.is_waiting-armed.result ≡ pends old x) number (c.is_waiting-armed.ensures ∙ ap (λ (d : Core). pends (state d) c.from-number.result) c.core-2.ensures) in
+    let waited = subst (λ (x : ℕ). c.is_waiting-armed.result ≡ pends old x) number (c.is_waiting-armed.ensures ∙ ap (λ (d : Core). pends (state d) c.from-number.result) c.core.ensures) in
     let known = below life.core n kept.stands.lawful kept.agree.threads in
     let here : c.len-place.result ≡ length held = search rules in
     let grown = (c.push_reserved.ensures.items ∙ ap (λ (x : Entry). c.self.inside.journal.items ++ x ∷ []) c.renewed.ensures) in
@@ -83,7 +83,7 @@ invariant_of-self-2 g c =
     let three = length-append held (e ∷ []) in
     let four = length-append es (e ∷ []) in
     let before = kept.next in
-    let free = room_left c.len-place.result c.self.inside.room (c.self.inside.first + c.len-place.result) c.pending.result c.is_full.result c.is_full.ensures c.if-is_full.false in
+    let free = room_left c.self.inside.life c.self.inside.base c.self.inside.dispatcher.written c.self.inside.first c.self.inside.journal.items c.self.inside.room c.args.self.now c.is_full.result c.self.view_is c.is_full.ensures c.if-is_full.false in
     let place = c.len-place.ensures in record {
       stands = stands_after life after c.self.inside.base es c.tell.new.dispatcher.written c.self.inside.first held c.push_reserved.new.self.items c.self.inside.room (record { entry = e; grants = [] }) kept.stands c.in-Some.ensures.lawful (begin_moves old t h after.core.grants new begun).threads
           (begin_deed old t h after.core.grants new begun) (stays_begun life.spare after.spare c.in-Some.ensures.stacked) (λ none. absurd (only_lasting (is_some life.spare) both.0 none)) grown longer;
@@ -94,6 +94,7 @@ invariant_of-self-2 g c =
       places = omega (arith, kept.places, c.push_reserved.ensures.capacity);
       next = omega (arith, one, two, three, four, before);
       numbers = omega (arith, one, three, free.1, place);
+      ends = kept.ends;
       seat = sent ∙ (λ i. record { table = g.N.Named.front.table; written = sym written i; published = sym now i });
       words = kept.words;
     }

@@ -1,5 +1,4 @@
 use Rattle.std.proofs.Common.{◌≡◌, ◌+◌, ◌-◌, ◌||◌, ℕ, Bool, List, ◌∷◌, [], ◌++◌, length, length-append, map, rules, arith, refl, subst, sym, ap, ◌∙◌}
-use Rattle.std.specs.FinMap.{len}
 use Rattle.std.proofs.lemmas.List.{append-nil}
 use Rattle.atomic_table.specs.Seated.{TableId}
 use Rattle.nt_calls.specs.declared.call.Grant.{Grant}
@@ -50,7 +49,7 @@ tell-requires-clause-armed g c =
     let old = state c.self.inside.life.core in
     let after = c.write_call-result.new.life.core in
     let result = c.write_call-result.result in
-    let waited = c.waited_before-waited.ensures ∙ (ap (λ (d : Core). is_err result && pends (state d) c.thread-who.result) c.core-2.ensures ∙ done.free) in
+    let waited = c.waited_before-waited.ensures ∙ (ap (λ (d : Core). is_err result && pends (state d) c.thread-who.result) c.core.ensures ∙ done.free) in
     let here : c.len-place.result ≡ length held = search rules in
     let entry = last_is held out.0 c.write_call-result.new.journal.items c.len-place.result c.index.result.now c.index.ensures out.1 here in
     let own = c.thread-who.ensures ∙ ap (λ (k : Knowledge). k.thread) (sym (ap (λ (s : Seated). s.known) c.deref_mut.ensures.value ∙ c.caller.view_is)) in
@@ -60,13 +59,12 @@ tell-requires-clause-armed g c =
 pub send-requires-clause-room : goal.send-requires-clause-room
 send-requires-clause-room g c =
     let next = c.self.inside.first + c.len-place.result in
-    let free = room_left c.len-place.result c.self.inside.room next c.pending.result c.is_full.result c.is_full.ensures c.if-is_full.false in
+    let free = room_left c.self.inside.life c.self.inside.base c.self.inside.dispatcher.written c.self.inside.first c.self.inside.journal.items c.self.inside.room c.args.self.now c.is_full.result c.self.view_is c.is_full.ensures c.if-is_full.false in
     let entries = c.len-place.ensures in
-    let pending = c.pending.ensures ∙ ap (λ (d : Core). len (state d).waits) c.core.ensures in
     let most = c.write_call-result.ensures.carried_out.2.most in
-    let granted = ap length (c.grants.ensures ∙ ap (λ (d : Core). d.grants) c.core-3.ensures) in
+    let granted = ap length (c.grants.ensures ∙ ap (λ (d : Core). d.grants) c.core-2.ensures) in
     let written = c.write_call-result.ensures.room in
-    (omega (arith, free.0, entries, pending, most, granted, written.0, written.1, c.self.invariant.places), omega (arith, free.1, entries, pending, most, granted))
+    (omega (arith, free.0, entries, most, granted, written.0, written.1, c.self.invariant.places), omega (arith, free.1, entries, most, granted))
 
 pub send-requires-clause-armed : goal.send-requires-clause-armed
 send-requires-clause-armed g c =
@@ -78,14 +76,14 @@ send-requires-clause-armed g c =
     let old = state c.self.inside.life.core in
     let after = c.write_call-result.new.life.core in
     let result = c.write_call-result.result in
-    let waited = c.waited_before-waited.ensures ∙ (ap (λ (d : Core). is_err result && pends (state d) c.thread-who.result) c.core-2.ensures ∙ done.free) in
+    let waited = c.waited_before-waited.ensures ∙ (ap (λ (d : Core). is_err result && pends (state d) c.thread-who.result) c.core.ensures ∙ done.free) in
     let words = ap (λ (t : TableId). t.words) c.requires.mail in
     let count : c.args.mail.now.words - 1 ≡ n = omega (arith, words, c.self.invariant.words) in
     let known = below c.self.inside.life.core n c.self.invariant.stands.lawful c.self.invariant.agree.threads in
     let here : c.len-place.result ≡ length c.self.inside.journal.items = search rules in
     let entry : c.index.result.now ≡ e = last_is c.self.inside.journal.items e c.write_call-result.new.journal.items c.len-place.result c.index.result.now c.index.ensures out.1 here in
     let told : c.tell.new.dispatcher.written ≡ es ++ e ∷ [] = ap (λ (d : DispatcherSeated). d.written) c.tell.ensures.written ∙ ap (λ (x : Entry). es ++ x ∷ []) entry in
-    let grants = c.grants.ensures ∙ ap (λ (d : Core). d.grants) c.core-3.ensures in
+    let grants = c.grants.ensures ∙ ap (λ (d : Core). d.grants) c.core-2.ensures in
     subst (λ (x : ℕ × List Entry × List Grant). AreArmed x.0 x.1 x.2) (λ i. (sym count i, sym told i, sym grants i))
     (call_sends n es old c.thread-who.result c.args.call result e after.grants (state after) c.waited_before-waited.result c.self.invariant.agree known done.moves waited done.of)
 
@@ -101,8 +99,8 @@ invariant_of-self g c =
     let new = state after.core in
     let result = c.write_call-result.result in
     let grants = after.core.grants in
-    let waited = c.waited_before-waited.ensures ∙ (ap (λ (d : Core). is_err result && pends (state d) c.thread-who.result) c.core-2.ensures ∙ done.free) in
-    let sent = c.grants.ensures ∙ ap (λ (d : Core). d.grants) c.core-3.ensures in
+    let waited = c.waited_before-waited.ensures ∙ (ap (λ (d : Core). is_err result && pends (state d) c.thread-who.result) c.core.ensures ∙ done.free) in
+    let sent = c.grants.ensures ∙ ap (λ (d : Core). d.grants) c.core-2.ensures in
     let known = below c.self.inside.life.core n c.self.invariant.stands.lawful c.self.invariant.agree.threads in
     let held = c.self.inside.journal.items in
     let next = c.send.new.journal.items in
@@ -120,10 +118,9 @@ invariant_of-self g c =
     let three = length-append held (e ∷ map granted grants) in
     let four = length-append es (e ∷ map granted grants) in
     let before = c.self.invariant.next in
-    let free = room_left c.len-place.result c.self.inside.room (c.self.inside.first + c.len-place.result) c.pending.result c.is_full.result c.is_full.ensures c.if-is_full.false in
+    let free = room_left c.self.inside.life c.self.inside.base c.self.inside.dispatcher.written c.self.inside.first c.self.inside.journal.items c.self.inside.room c.args.self.now c.is_full.result c.self.view_is c.is_full.ensures c.if-is_full.false in
     let count = written_count held next e grants grown in
     let place = c.len-place.ensures in
-    let pending = c.pending.ensures ∙ ap (λ (d : Core). len (state d).waits) c.core.ensures in
     let most = done.most in record {
       stands = stands_after c.self.inside.life after c.self.inside.base es more c.self.inside.first held next c.self.inside.room (record { entry = e; grants = grants }) c.self.invariant.stands done.lawful done.moves.threads done.step done.lasts done.once grown longer;
       agree = subst (λ l. Agree n l new) (sym longer) (agree_after_call n es old c.thread-who.result c.args.call result e grants new c.waited_before-waited.result c.self.invariant.agree known done.moves waited done.of done.moment);
@@ -132,7 +129,8 @@ invariant_of-self g c =
       lasts = done.lasts ∙ c.self.invariant.lasts;
       places = omega (arith, c.self.invariant.places, c.write_call-result.ensures.room.1, c.send.ensures.capacity);
       next = omega (arith, one, two, three, four, before);
-      numbers = omega (arith, count, free.1, place, pending, most);
+      numbers = omega (arith, count, free.1, place, most);
+      ends = c.self.invariant.ends;
       seat = kept ∙ (λ i. record { table = g.N.Named.front.table; written = sym written i; published = sym now i });
       words = c.self.invariant.words;
     }
@@ -172,7 +170,7 @@ returns-clause-book g c =
     let after = c.write_call-result.new.life in
     let result = c.write_call-result.result in
     let grants = after.core.grants in
-    let sent = c.grants.ensures ∙ ap (λ (d : Core). d.grants) c.core-3.ensures in
+    let sent = c.grants.ensures ∙ ap (λ (d : Core). d.grants) c.core-2.ensures in
     let held = c.self.inside.journal.items in
     let next = c.send.new.journal.items in
     let grown : next ≡ held ++ e ∷ map granted grants = journal_is held c.write_call-result.new.journal.items next e grants c.grants.result.now out.1 c.send.ensures.journal sent in

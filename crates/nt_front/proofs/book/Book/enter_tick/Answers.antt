@@ -3,7 +3,6 @@ use Rattle.atomic_table.specs.Seated.{TableId}
 use Rattle.nt_calls.specs.declared.call.Grant.{Grant}
 use Rattle.nt_calls.specs.State.{pends}
 use Rattle.nt_machine.specs.Dispatcher.{Dispatcher as Core, state}
-use Rattle.std.specs.FinMap.{len}
 use Rattle.std.specs.Prelude.{is_some}
 use Rattle.nt_mail.specs.declared.entry.Entry.{Entry}
 use Rattle.nt_mail.specs.declared.entry.Entry.TheVariants.{Ticked}
@@ -44,7 +43,7 @@ send-requires-clause-armed g c =
     let stays = done_stays c.tick-result.result (tick_told (state c.self.inside.life.core) (state c.tick-result.new.self.core) c.args.moment c.tick-result.result c.tick-result.new.self.core.grants done.ticked) in
     let new = state c.tick-result.new.self.core in
     let grants = c.tick-result.new.self.core.grants in
-    let waited = subst (λ (t : ℕ). c.is_waiting-armed.result ≡ pends old t) (c.from.ensures ∙ c.get.ensures) (c.is_waiting-armed.ensures ∙ ap (λ (d : Core). pends (state d) c.from.result) c.core-2.ensures) in
+    let waited = subst (λ (t : ℕ). c.is_waiting-armed.result ≡ pends old t) (c.from.ensures ∙ c.get.ensures) (c.is_waiting-armed.ensures ∙ ap (λ (d : Core). pends (state d) c.from.result) c.core.ensures) in
     let words = ap (λ (t : TableId). t.words) c.requires.mail in
     let count : c.args.mail.now.words - 1 ≡ n = omega (arith, words, c.self.invariant.words) in
     let known = below c.self.inside.life.core n c.self.invariant.stands.lawful c.self.invariant.agree.threads in
@@ -52,7 +51,7 @@ send-requires-clause-armed g c =
     let here : c.len-place.result ≡ length c.self.inside.journal.items = search rules in
     let entry : c.index.result.now ≡ e = last_is c.self.inside.journal.items e c.push_reserved.new.self.items c.len-place.result c.index.result.now c.index.ensures (c.push_reserved.ensures.items ∙ ap (λ (x : Entry). c.self.inside.journal.items ++ x ∷ []) c.ticked.ensures) here in
     let told : c.tell.new.dispatcher.written ≡ es ++ e ∷ [] = ap (λ (d : DispatcherSeated). d.written) c.tell.ensures.written ∙ ap (λ (x : Entry). es ++ x ∷ []) entry in
-    subst (λ (x : ℕ × List Entry × List Grant). AreArmed x.0 x.1 x.2) (λ i. (sym count i, sym told i, sym (c.grants.ensures ∙ ap (λ (d : Core). d.grants) c.core-3.ensures) i))
+    subst (λ (x : ℕ × List Entry × List Grant). AreArmed x.0 x.1 x.2) (λ i. (sym count i, sym told i, sym (c.grants.ensures ∙ ap (λ (d : Core). d.grants) c.core-2.ensures) i))
     (tick_sends n es old c.thread-by.result c.args.moment c.tick-result.result grants new c.is_waiting-armed.result c.self.invariant.agree known stays (done.moves c.thread-by.result) waited)
 
 pub invariant_of-self : goal.invariant_of-self
@@ -68,10 +67,10 @@ invariant_of-self g c =
     let result = c.tick-result.result in
     let grants = after.core.grants in
     let moved = done.moves by in
-    let waited = subst (λ (t : ℕ). c.is_waiting-armed.result ≡ pends old t) (c.from.ensures ∙ c.get.ensures) (c.is_waiting-armed.ensures ∙ ap (λ (d : Core). pends (state d) c.from.result) c.core-2.ensures) in
+    let waited = subst (λ (t : ℕ). c.is_waiting-armed.result ≡ pends old t) (c.from.ensures ∙ c.get.ensures) (c.is_waiting-armed.ensures ∙ ap (λ (d : Core). pends (state d) c.from.result) c.core.ensures) in
     let known = below c.self.inside.life.core n c.self.invariant.stands.lawful c.self.invariant.agree.threads in
     let e = Ticked by c.args.moment result in
-    let sent_are = c.grants.ensures ∙ ap (λ (d : Core). d.grants) c.core-3.ensures in
+    let sent_are = c.grants.ensures ∙ ap (λ (d : Core). d.grants) c.core-2.ensures in
     let held = c.self.inside.journal.items in
     let next = c.send.new.journal.items in
     let grown : next ≡ held ++ (e ∷ map granted grants) = journal_is held c.push_reserved.new.self.items next e grants c.grants.result.now (c.push_reserved.ensures.items ∙ ap (λ (x : Entry). c.self.inside.journal.items ++ x ∷ []) c.ticked.ensures) c.send.ensures.journal sent_are in
@@ -90,10 +89,9 @@ invariant_of-self g c =
     let three = length-append held ((e ∷ map granted grants)) in
     let four = length-append es ((e ∷ map granted grants)) in
     let before = c.self.invariant.next in
-    let free = room_left c.len-place.result c.self.inside.room (c.self.inside.first + c.len-place.result) c.pending.result c.is_full.result c.is_full.ensures c.if-is_full.false in
+    let free = room_left c.self.inside.life c.self.inside.base c.self.inside.dispatcher.written c.self.inside.first c.self.inside.journal.items c.self.inside.room c.args.self.now c.is_full.result c.self.view_is c.is_full.ensures c.if-is_full.false in
     let count = written_count held next e grants grown in
     let place = c.len-place.ensures in
-    let pending = c.pending.ensures ∙ ap (λ (d : Core). len (state d).waits) c.core.ensures in
     let most = done.few in record {
       stands = stands_after c.self.inside.life after c.self.inside.base es c.publish.new.dispatcher.written c.self.inside.first held next c.self.inside.room (record { entry = e; grants = grants }) c.self.invariant.stands done.lawful moved.threads (refl, (new, done.ticked, refl)) (ap is_some done.spare) (λ once. refl) grown last;
       agree = subst (λ l. Agree n l new) (sym last) (agree_after_tick n es old by c.args.moment result grants new c.is_waiting-armed.result c.self.invariant.agree known stays moved done.moment waited);
@@ -102,7 +100,8 @@ invariant_of-self g c =
       lasts = ap is_some done.spare ∙ c.self.invariant.lasts;
       places = omega (arith, c.self.invariant.places, c.push_reserved.ensures.capacity, c.send.ensures.capacity);
       next = omega (arith, one, two, three, four, before);
-      numbers = omega (arith, count, free.1, place, pending, most);
+      numbers = omega (arith, count, free.1, place, most);
+      ends = c.self.invariant.ends;
       seat = kept ∙ (λ i. record { table = g.N.Named.front.table; written = sym written i; published = sym now i });
       words = c.self.invariant.words;
     }
@@ -140,7 +139,7 @@ returns-clause-book g c =
     let result = c.tick-result.result in
     let grants = after.core.grants in
     let e = Ticked by moment result in
-    let sent_are = c.grants.ensures ∙ ap (λ (d : Core). d.grants) c.core-3.ensures in
+    let sent_are = c.grants.ensures ∙ ap (λ (d : Core). d.grants) c.core-2.ensures in
     let held = c.self.inside.journal.items in
     let next = c.send.new.journal.items in
     let grown : next ≡ held ++ e ∷ map granted grants = journal_is held c.push_reserved.new.self.items next e grants c.grants.result.now (c.push_reserved.ensures.items ∙ ap (λ (x : Entry). c.self.inside.journal.items ++ x ∷ []) c.ticked.ensures) c.send.ensures.journal sent_are in

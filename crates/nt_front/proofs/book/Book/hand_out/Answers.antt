@@ -22,6 +22,7 @@ invariant_of-self g c =
       places = search rules;
       next = omega (arith, next, none);
       numbers = omega (arith, count, none, kept.numbers);
+      ends = c.end_of-self-inside.ensures;
       seat = kept.seat;
       words = kept.words;
     }

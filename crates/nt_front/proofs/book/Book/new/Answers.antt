@@ -17,6 +17,7 @@ invariant_of-result g c =
       places = c.requires.journal.1;
       next = omega (arith, unwritten, empty);
       numbers = omega (arith, empty);
+      ends = c.end_of.ensures;
       seat = c.requires.dispatcher ∙ ap (λ (es : List Entry). record { table = g.N.Named.front.table; written = es; published = accepted es }) (sym none);
       words = c.requires.front.0;
       threads = c.requires.front.1;

@@ -1,4 +1,4 @@
-use Rattle.std.proofs.Common.{◌≡◌, ◌+◌, ◌≤◌}
+use Rattle.std.proofs.Common.{◌≡◌, ◌+◌}
 use Rattle.nt_marks.proofs.Counting.{marks_left}
 use Rattle.nt_front.specs.Wakes.{marked_below}
 use Rattle.nt_front.proofs.wake.Bells.ring_slow.Given as goal
