@@ -287,7 +287,10 @@ __attribute__((destructor(101))) static void end_looking(void)
 __attribute__((constructor(101))) static void read_environment(void)
 {
     const char *asked = secure_getenv("NTWIN_SCHEDULE");
+    /* (A program begins with no error, though nothing is open there.) */
+    const int error = errno;
     had_no_error = fcntl(STDERR_FILENO, F_GETFD) < 0;
+    errno = error;
     if (asked != NULL && *asked != 0)
         begin_schedule(asked);
     const char *why = is_scheduled ? NULL : secure_getenv("NTWIN_WHY"), *path = secure_getenv("NTWIN_JOURNAL");

@@ -19,15 +19,17 @@ NTW_INTERNAL void touch(const volatile void *what, bool writes)
     struct touched *it = &schedule.touched;
     if (!notes_touches || what == NULL || me == NULL || is_apart())
         return;
-    for (uint32_t i = 0; i < it->count; i++)
+    uint32_t count = __atomic_load_n(&it->count, __ATOMIC_RELAXED);
+    for (uint32_t i = 0; i < count; i++)
         if (it->what[i] >> 1 == noted_as(what, false) >> 1) {
             it->what[i] |= writes;
             return;
         }
-    if (it->count == MOST_TOUCHED)
+    if (count < MOST_TOUCHED)
+        it->what[count] = noted_as(what, writes);
+    /* (A signal's handler may have noted something meanwhile, in this very place.) */
+    if (count == MOST_TOUCHED || !__atomic_compare_exchange_n(&it->count, &count, count + 1, false, __ATOMIC_RELAXED, __ATOMIC_RELAXED))
         it->is_all = true;
-    else
-        it->what[it->count++] = noted_as(what, writes);
 }
 
 NTW_INTERNAL void touch_all(void)

@@ -1,7 +1,8 @@
 /* Within 30 s, unsanitized: 8 passed, 0 failed.
  *
  * The thread that takes SIGQUIT is in the midst of telling why threads wait. A child that is forked then may call, as if nothing were written; and a
- * process that ends then has written all. Where standard error is closed, nothing is written into the file that has its number. */
+ * process that ends then has written all. Where standard error is closed, nothing is written into the file that has its number, and main begins with
+ * no error in errno. */
 #include "case.h"
 
 #include <dlfcn.h>
@@ -13,6 +14,7 @@
 
 enum { IN_NOTHING, IN_TEXT, IN_WRITING };
 static LONG held_in, is_held, goes_on;
+static int error_at_first; /* as main begins */
 
 /* The library's first call of this kind, if it is to be held, goes on a while after this program does. */
 static void hold(LONG kind)
@@ -94,8 +96,10 @@ static int act(const char *what, const char *path)
         return fork_meanwhile();
     if (strcmp(what, "end") == 0)
         return end_meanwhile();
-    if (strcmp(what, "closed") == 0)
+    if (strcmp(what, "closed") == 0) {
+        must(error_at_first == 0);
         return tell_nobody(path, 0);
+    }
     close(STDERR_FILENO);
     return tell_nobody(path, O_CLOEXEC);
 }
@@ -148,6 +152,7 @@ static int told_by(const char *program, const char *act, char *told, size_t room
 int main(int count, char **words)
 {
     static char told[4096];
+    error_at_first = errno;
     if (count > 1)
         return act(words[1], count > 2 ? words[2] : NULL);
     IS(told_by(words[0], "fork", told, sizeof told), 0);
