@@ -7,6 +7,8 @@ from crates import crates_of
 from kept import bytes_of, sum_of, sum_of_crate
 from telling import TOOLS, Step
 
+# What is made in the tree beside folders out/, maybe by a step that runs beside the one that is asked.
+MADE = ("c/compile_commands.json", "rust/Cargo.lock")
 # What compilers, their runtimes and the tests heed of the environment.
 HEEDED = re.compile(r"(CC|CXX|AR|RT|C\w*FLAGS|LD\w*|MAKE\w*|PYTHON\w*|NT\w*|\w+_OPTIONS|GLIBC\w*|MALLOC\w*|LANG|LC_\w+)$")
 
@@ -21,7 +23,7 @@ def sum_of_machine():
 
 def sum_of_rest(tree, without):
     """A sum of the tree's files, but of its crates, of what is made, of mutants, and of what is left out."""
-    left_out, found = {f"{tree}/{it}" for it in (".git", "crates", *without)}, []
+    left_out, found = {f"{tree}/{it}" for it in (".git", "crates", *MADE, *without)}, []
     for at, folders, names in os.walk(tree):
         folders[:] = sorted(it for it in folders if f"{at}/{it}" not in left_out and it not in ("out", "__pycache__"))
         found += [f"{at}/{it}" for it in sorted(names) if f"{at}/{it}" not in left_out and not it.endswith(".edits")]

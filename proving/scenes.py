@@ -2,6 +2,7 @@
 import contextlib
 import functools
 import glob
+import itertools
 import os
 import re
 import shutil
@@ -9,6 +10,7 @@ import subprocess
 import sys
 import tempfile
 import unittest.mock
+from concurrent.futures import ThreadPoolExecutor, wait
 
 import kit
 import steps
@@ -85,6 +87,27 @@ for merges in (True, False):
         with open(f"copy/{it}", "a") as file:
             file.write("# merged")
 """
+# A run that ends while a step runs beside others: early, or by a signal in another's turn, when that has said something. Each writes the number of a
+# process that it began.
+ENDED = """import os, sys, time
+sys.dont_write_bytecode = True
+sys.path[:0] = [f"{sys.argv[1]}/{it}" for it in ("proving", "mutants", "launcher", "tests")]
+import signal, steps, telling
+class Signals:
+    def tell(self, _):
+        os.kill(os.getpid(), int(sys.argv[2]))
+# (what runs in the background of a shell begins with this one ignored)
+signal.signal(signal.SIGINT, signal.SIG_DFL)
+telling.end_by_signals()
+with telling.lane(1) as lane:
+    telling.Beside(steps.command(".", "sh", "-c", "timeout 60 sh -c 'echo $$ > began; sleep 20 && touch late' > /dev/null & wait"), lane).begin()
+    while not os.path.exists("began") or not os.path.getsize("began"):
+        time.sleep(0.01)
+    if sys.argv[2:]:
+        steps.command(".", "sh", "-c", "echo $$ > turn; echo one; echo two; exec sleep 20")(Signals())
+"""
+# Where what a step tells goes.
+NOWHERE = open(os.devnull, "w", encoding="utf-8")  # pylint: disable=consider-using-with
 # What the gate calls where it runs as a whole, beside the fake rt and Python: other tools are lacking there.
 CALLED = ("sh", "env", "git", "mkdir", "chmod")
 
@@ -203,8 +226,7 @@ def taken(folder):
             write_tree(f"{folder}/tree")
         write(f"{folder}/tree/{path}", text)
         step = repeated(f"{folder}/tree", kept_before, ["low"], ["bench"], words, steps.command(f"{folder}/tree", *words))
-        with open(os.devnull, "w", encoding="utf-8") as nowhere:
-            found = step(Progress(out=nowhere))
+        found = step(Progress(out=NOWHERE))
         yield len(bytes_of(f"{folder}/ran")) == 2 * held and (found.passed, bool(found.failed)) == (3, text == "1\n")
 
 
@@ -214,8 +236,7 @@ def laid_out(folder):
     for changes, takes, failed, asked in ((is_not, True, 1, 4), (is_not, True, 1, 1), (is_laid, True, 0, 1), (is_laid, True, 0, 0), (is_laid, False, 0, 4)):
         write_tree(f"{folder}/tree", **changes)
         write(os.environ["CALLED"], "")
-        with open(os.devnull, "w", encoding="utf-8") as nowhere:
-            found = steps.each_file_is_laid_out(f"{folder}/tree", takes, Progress(out=nowhere))
+        found = steps.each_file_is_laid_out(f"{folder}/tree", takes, Progress(out=NOWHERE))
         yield (len(found.failed), bytes_of(os.environ["CALLED"]).count(b"fmt\n")) == (failed, asked)
 
 
@@ -229,12 +250,42 @@ def told(folder):
     for held in ("", f"$ {' '.join(script)}\none\n"):
         write(f"{folder}/tree/examples/reports", f"{held}$ {' '.join(why)}\nheld\n  $ 2\n")
         yield steps.runs_of(f"{folder}/tree") == [(script, held and "one\n"), (why, "held\n  $ 2\n")]
-    with open(os.devnull, "w", encoding="utf-8") as nowhere, unittest.mock.patch.object(telling, "Progress", functools.partial(Progress, out=nowhere)):
-        write(f"{folder}/{telling.LEAST}", "a scene: 3\n")
-        for words in ["echo 3 passed, 0 failed", *NO_STEPS]:
-            gate = telling.Gate(folder, "scene")
-            gate.step("a scene", steps.command(folder, "sh", "-c", words))
-            yield gate.end() == (1 if words in NO_STEPS else 0)
+    write(f"{folder}/{telling.LEAST}", "a scene: 3\n")
+    with unittest.mock.patch.object(telling, "Progress", functools.partial(Progress, out=NOWHERE)), ThreadPoolExecutor(1) as lane:
+        for words, is_beside in itertools.product(["echo 3 passed, 0 failed", *NO_STEPS], (False, True)):
+            gate, step = telling.Gate(folder, "scene"), telling.Beside(steps.command(folder, "sh", "-c", words), lane)
+            if is_beside:
+                step.begin()
+                wait([step.ended])
+            gate.step("a scene", step.turn)
+            yield (gate.end(), [it[:9] for it in gate.failed]) == ((1, ["a scene: "]) if words in NO_STEPS else (0, []))
+
+
+def beside(folder):
+    """Long steps begin after the first, tell their own time, and leave for their turn what is to run alone; nothing is left of a run that ends."""
+    at = lambda name: f"{folder}/{name}"
+    step = lambda name, words: (name, steps.command(folder, "sh", "-c", words), False)
+    alone = f"touch began; flock -w 20 {at('alone')} test -e turn && echo 1 passed, 0 failed"
+    others = [step("other", "sleep 0.1; touch turn"), step(steps.LONG[0], alone), step(steps.LONG[1], "echo 2 passed, 1 failed")]
+    for makes, wanted in (("exit 1", [(0, 1)]), ("echo 1 passed, 0 failed", [(1, 0), (1, 0), (1, 0), (2, 1)])):
+        with ThreadPoolExecutor(1) as lane:
+            named = steps.with_long_ones_beside([step("makes", makes), *others], lane, at("alone"))
+            found = [call(Progress(out=NOWHERE)) for _, call, _ in named[: len(wanted)]]
+        yield [(it.passed, it.many) for it in found] == wanted and os.path.exists(at("began")) == (len(wanted) > 1)
+    yield (found[2].took or 0) > 0.1 and found[0].took is None
+    for status, *signals in ((0,), (130, "2"), (143, "15")):
+        os.remove(at("began"))
+        write(at("turn"), "")
+        ended = subprocess.run([sys.executable, "-c", ENDED, TOP, *signals], cwd=folder, stdin=subprocess.DEVNULL, check=False)
+        numbers = (bytes_of(at("began")) + bytes_of(at("turn"))).split()
+        yield ended.returncode == status and len(numbers) == 1 + len(signals) and not any(map(runs, numbers)) and not os.path.exists(at("late"))
+
+
+def runs(number):
+    """Whether a process of this number runs."""
+    with contextlib.suppress(OSError):
+        return bytes_of(f"/proc/{int(number)}/stat").rpartition(b")")[2][1:2] not in (b"", b"Z", b"X")
+    return False
 
 
 def as_a_whole(folder):
@@ -262,7 +313,7 @@ def as_a_whole(folder):
 def run(progress):
     """Runs the scenes, each in a folder of its own, with nothing of this machine's kit and of what is kept."""
     passed, failed = 0, []
-    for scene in (judged, not_proved, kept, merged, taken, laid_out, told, as_a_whole):
+    for scene in (judged, not_proved, kept, merged, taken, laid_out, told, beside, as_a_whole):
         with tempfile.TemporaryDirectory() as folder, contextlib.ExitStack() as stack:
             write(f"{folder}/bin/rt", RT, 0o755)
             write(f"{folder}/called.number", "9\n")

@@ -1,4 +1,5 @@
 """The steps of the gate. Each is its name, a call that gives what it counted, and whether the steps after it need what it makes."""
+import contextlib
 import filecmp
 import functools
 import glob
@@ -7,12 +8,13 @@ import re
 import signal
 import subprocess
 import tempfile
+import time
 from concurrent.futures import ThreadPoolExecutor
 
 import failures
 import kit
 import rows
-from command import noted, run
+from command import Ended, end_of, is_ending, noted, run
 from crates import crates_of, text_of
 from edits import edits_in
 from kept import Kept, sum_of, sum_of_files, sum_of_kit
@@ -20,7 +22,7 @@ from lanes import processors, run_all
 from proofs import Proofs, handles_of
 from repeats import repeated
 from rooms import fill_room
-from telling import COUNTED, Step
+from telling import COUNTED, Beside, Step
 from trial import Trial
 from verdicts import sum_of_mutant
 
@@ -28,28 +30,70 @@ from verdicts import sum_of_mutant
 RATED = ("nt_machine", "nt_core")
 # How the names of crates end that only measure: `./gate all` alone proves them.
 BENCH = "_bench"
+# How long what is told to end may take for that, in seconds.
+PATIENCE = 2
+
+
+def parents():
+    """The parent of each process that runs, by the process's number."""
+    found = {}
+    for path in glob.glob("/proc/[0-9]*/stat"):
+        with contextlib.suppress(OSError), open(path, "rb") as file:
+            state, parent = file.read().rpartition(b")")[2].split()[:2]
+            found.update({int(path.split("/")[2]): int(parent)} if state not in (b"Z", b"X") else {})
+    return found
+
+
+def send(numbers, sent):
+    for it in numbers:
+        with contextlib.suppress(OSError):
+            os.kill(it, sent)
+
+
+class Command(subprocess.Popen):
+    """A command that ends with all that it began, whatever group or session that is in."""
+
+    def terminate(self):
+        # (each stands still before those that it began are looked for, so that it begins no more)
+        found, new = [], [self.pid]
+        while new:
+            send(new, signal.SIGSTOP)
+            found += new
+            new = [it for it, parent in parents().items() if parent in found and it not in found]
+        send(found, signal.SIGTERM)
+        send(found, signal.SIGCONT)
+        until = time.monotonic() + PATIENCE
+        while parents().keys() & {*found} and time.monotonic() < until:
+            time.sleep(0.02)
+        send(parents().keys() & {*found}, signal.SIGKILL)
 
 
 def counted(words, top, progress):
     """Runs a command that counts at its end, `N passed, M failed`; one that does not counts as one. Each line that it says is told, but for
     that count in its last line. (After a count that has failures, make adds a line.)"""
-    child = subprocess.Popen(words, cwd=top, stdin=subprocess.DEVNULL, stdout=subprocess.PIPE, stderr=subprocess.STDOUT, errors="replace")
-    lines = []
-    with noted(child):
-        for line in child.stdout:
-            if lines:
-                progress.tell(lines[-1])
-            lines.append(line.rstrip("\n"))
-        status = child.wait()
+    if is_ending.is_set():
+        raise Ended
+    how, lines = {"stdin": subprocess.DEVNULL, "stdout": subprocess.PIPE, "stderr": subprocess.STDOUT, "errors": "replace"}, []
+    with Command(words, cwd=top, **how) as child, noted(child):
+        try:
+            for line in child.stdout:
+                if lines:
+                    progress.tell(lines[-1])
+                lines.append(line.rstrip("\n"))
+            used = end_of(child)
+        except BaseException:
+            child.terminate()
+            raise
+    status = child.returncode
     found = next((COUNTED.match(it) for it in lines[:-3:-1] if COUNTED.match(it)), None)
     if lines and not COUNTED.match(lines[-1]):
         progress.tell(lines[-1])
     passed, failed = (int(found[1]), int(found[2])) if found else (0, 0)
     if not status and not failed:
-        return Step(passed if found else 1)
+        return Step(passed if found else 1, used=used)
     ended = f"killed by {signal.Signals(-status).name}" if status < 0 else f"{failed} failed" if failed else f"status {status}"
     first = [it[:100] for it in lines if it and not it.startswith((" ", "make", "NT_C=")) and not COUNTED.match(it)][:3]
-    return Step(passed, ["; ".join([ended, *first])], failed or 1)
+    return Step(passed, ["; ".join([ended, *first])], failed or 1, used=used)
 
 
 def no_conflict_markers(top, progress):
@@ -242,25 +286,6 @@ def before_proofs(top, takes):
     ]
 
 
-class Beside:
-    """A step that runs beside others: it is begun early, and its turn is to wait for it."""
-
-    def __init__(self, call, pool):
-        self.call, self.pool, self.lines, self.ended = call, pool, [], None
-
-    def begin(self):
-        self.ended = self.pool.submit(self.call, self)
-
-    def tell(self, text):
-        self.lines.append(text)
-
-    def turn(self, progress):
-        found = self.ended.result()
-        for it in self.lines:
-            progress.tell(it)
-        return found
-
-
 def unproved(top, builds, pool):
     """What a change breaks first, over builds without proofs: each program takes many times as long there. The tests of C, which wait more than they
     work, run beside the others."""
@@ -281,25 +306,47 @@ def unproved(top, builds, pool):
     ]
 
 
-def proved(tree, work, is_all):
+# What is long, and begins once the proofs are made, in this order, one at a time beside the steps whose turn it is. Each of these, and most others,
+# keeps two processors busy by itself: so there have to be four.
+LONG, PROCESSORS_OF_TWO = ("the library for C programs", "the scripts, each growth refused", "a release, where no kit is"), 4
+
+
+def with_long_ones_beside(named, lane, alone):
+    """These steps, of which the first begins the long ones if it makes what they run. What is to run alone of tests of C waits for its turn."""
+    beside = {name: Beside(call, lane, alone if name == LONG[0] else None) for name, call, _ in named if name in LONG}
+
+    def makes(progress):
+        found = named[0][1](progress)
+        for it in LONG:
+            if found.is_made and it in beside:
+                beside[it].begin()
+        return found
+
+    calls = {named[0][0]: makes, **{name: it.turn for name, it in beside.items()}}
+    return [(name, calls.get(name, call), is_needed) for name, call, is_needed in named]
+
+
+def proved(tree, work, is_all, tell, lane):
     """The steps with proofs: over what earlier runs kept, or from nothing with each mutant, case and planted fault of C. Those of tests that take long are
     not run again over the same."""
-    kept = Kept(lambda _: None, takes=not is_all)
+    kept, alone = Kept(lambda _: None, takes=not is_all), f"{work}/alone"
     # (of c/ a preload may have the kit's compiler)
     no_growth = ["docs", "bench", *(os.path.relpath(it, tree) for it in glob.glob(f"{tree}/c/*") if not it.endswith("/kit"))]
-    again = lambda names, without, *words: repeated(tree, kept, names, without, words, command(tree, *words))
+    again = lambda names, without, words, *before: repeated(tree, kept, names, without, words, command(tree, *before, *words))
     in_c = ["make", "--no-print-directory", "-C", "c", "check", "ALL=1" if is_all else "STRICT=1"]
-    return [
+    named = [
         ("proofs, tests, programs and mutants", functools.partial(proofs_and_mutants, tree, work, is_all), True),
-        ("the tests, each growth refused", again([], no_growth, "tests/growths/tests"), False),
+        ("the tests, each growth refused", again([], no_growth, ["tests/growths/tests"]), False),
         ("object numbers and handles", command(tree, "tests/types"), False),
         ("what closed objects leave", command(tree, "tests/memory"), False),
         ("the threads of a plan", command(tree, "tests/threads"), False),
         ("a grant between a look and a sleep", command(tree, "tests/woken"), False),
-        ("the scripts, each growth refused", again(["ntrun", "ntlook"], no_growth, "tests/growths/scripts"), False),
         ("the programs of docs/EMBEDDING.md, each growth refused", command(tree, "tests/growths/example"), False),
         ("the examples", functools.partial(examples, tree), False),
         ("the launcher, and the worked scripts", command(tree, "tests/launcher"), False),
         ("random scripts and lives, a second way", command(tree, "tests/compare", *["--all"] * is_all), False),
-        ("the library for C programs", again(["nt_c", "ntrun", "ntlook", "ntrace", "nchoose"], ["bench"], *in_c), False),
+        ("the library for C programs", again(["nt_c", "ntrun", "ntlook", "ntrace", "nchoose"], ["bench"], in_c, "env", f"ALONE={alone}"), False),
+        *for_others(tree, tell),
+        ("the scripts, each growth refused", again(["ntrun", "ntlook"], no_growth, ["tests/growths/scripts"]), False),
     ]
+    return named if is_all or processors() < PROCESSORS_OF_TWO else with_long_ones_beside(named, lane, alone)

@@ -1,14 +1,18 @@
 """What the gate tells: its steps, their times, what they counted, and what is lacking on the machine."""
 import contextlib
+import fcntl
 import json
 import os
 import re
 import shutil
+import signal
 import subprocess
+import sys
 import tempfile
 import time
+from concurrent.futures import ThreadPoolExecutor
 
-from command import processor_seconds
+from command import processor_seconds, stop_all
 from crates import text_of
 from kept import cache_folder
 from progress import Progress
@@ -25,12 +29,75 @@ COUNTED = re.compile(r"^(\d+) passed, (\d+) failed$")
 
 class Step:
     """What a step counted: how many passed, how many failed, and the names of those; and whether it made what later steps run, as it did if nothing
-    failed and that is left out."""
+    failed and that is left out. Its seconds and those of processors are those of its turn, if it does not know them."""
 
-    def __init__(self, passed=0, failed=(), many=None, is_made=None):
-        self.passed, self.failed = passed, list(failed)
+    def __init__(self, passed=0, failed=(), many=None, is_made=None, used=None):
+        self.passed, self.failed, self.took, self.used = passed, list(failed), None, used
         self.many = len(self.failed) if many is None else many
         self.is_made = not self.failed if is_made is None else is_made
+
+
+class Beside:
+    """A step that runs beside those whose turn it is: it is begun early, and its turn is to wait for it. What it says is told then. If its lane
+    has not come to it, it runs in its turn. Until then the lock of the file `alone` is held: a part of it that is to run alone waits for that."""
+
+    # The processor seconds of all that ran so.
+    used = 0.0
+
+    def __init__(self, call, lane, alone=None):
+        self.call, self.lane, self.alone, self.held, self.lines, self.ended = call, lane, alone, None, [], None
+
+    def begin(self):
+        if self.alone:
+            self.held = open(self.alone, "w", encoding="ascii")  # pylint: disable=consider-using-with
+            fcntl.flock(self.held, fcntl.LOCK_EX)
+        self.ended = self.lane.submit(self.run)
+
+    def tell(self, text):
+        self.lines.append(text)
+
+    def run(self):
+        begun = time.monotonic()
+        found = self.call(self)
+        found.took = time.monotonic() - begun
+        Beside.used += found.used or 0
+        return found
+
+    def turn(self, progress):
+        if self.held:
+            self.held.close()
+        if not self.ended or self.ended.cancel():
+            return self.call(progress)
+        try:
+            return self.ended.result()
+        finally:
+            for it in self.lines:
+                progress.tell(it)
+
+
+@contextlib.contextmanager
+def lane(at_once):
+    """Where so many steps may run beside those whose turn it is. What still runs there at the end of the run is ended."""
+    pool = ThreadPoolExecutor(at_once)
+    try:
+        yield pool
+    finally:
+        stop_all()
+        pool.shutdown(cancel_futures=True)
+
+
+def end_by_signals():
+    """Has a signal that ends this run end all that it began, too."""
+    heeded = [it for it in (signal.SIGINT, signal.SIGTERM, signal.SIGHUP) if signal.getsignal(it) != signal.SIG_IGN]
+
+    def end(number, _):
+        for it in heeded:
+            signal.signal(it, signal.SIG_IGN)
+        stop_all()
+        sys.exit(128 + number)
+
+    for it in heeded:
+        signal.signal(it, end)
 
 
 class Gate:
@@ -54,11 +121,8 @@ class Gate:
             self.tell(f"gate: this machine lacks {what} (in Debian: {package}); what needs it fails")
 
     def expected(self, name):
-        """How long the step took the last time on this machine, or by docs/GATE.md, in words."""
-        if name in self.last_times:
-            return f", last time here {self.last_times[name]:.0f} s"
-        found = re.search(rf"^\| {re.escape(name)} \| ([\d,]+) s ", text_of(f"{self.top}/docs/GATE.md"), re.M)
-        return f", by docs/GATE.md {found[1]} s" if found else ""
+        """How long the step took the last time on this machine, in words."""
+        return f", last time here {self.last_times[name]:.0f} s" if name in self.last_times else ""
 
     def least(self, name):
         found = re.search(rf"^{re.escape(name)}: (\d+)$", text_of(f"{self.top}/{LEAST}"), re.M)
@@ -67,7 +131,7 @@ class Gate:
     def step(self, name, call):
         """Runs a step, which gives a Step, and returns whether it made what later steps run."""
         self.number += 1
-        begun, before = time.monotonic(), processor_seconds()
+        begun, before = time.monotonic(), processor_seconds() - Beside.used
         self.progress = Progress()
         self.progress.head = f"{self.number} of {self.total}, {name}: "
         self.tell(f"gate: {self.number} of {self.total}, {name}{self.expected(name)} ..")
@@ -78,13 +142,14 @@ class Gate:
                 found = Step(0, [f"it could not go on: {type(error).__name__}: {error}"])
         if not found.failed and found.passed < self.least(name):
             found = Step(found.passed, [f"it counted {found.passed}, and {LEAST} wants {self.least(name)}"], is_made=found.is_made)
-        took = time.monotonic() - begun
+        took = time.monotonic() - begun if found.took is None else found.took
+        used = processor_seconds() - Beside.used - before if found.used is None else found.used
         self.passed, self.many = self.passed + found.passed, self.many + found.many
         self.failed += [f"{name}: {it}" for it in found.failed]
         self.times[name] = took
         self.tell(
             f"gate: {self.number} of {self.total}, {name}: {found.passed} passed, {found.many} failed, "
-            f"{took:.0f} s, {processor_seconds() - before:.0f} s of processors"
+            f"{took:.0f} s{' beside others' if found.took else ''}, {used:.0f} s of processors"
         )
         return found.is_made
 
