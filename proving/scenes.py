@@ -21,7 +21,6 @@ from edits import edits_in
 from kept import Kept, bytes_of, sum_of_kit_of
 from judging import judge_alone, judge_round
 from progress import Progress
-from repeats import repeated
 from sources import functions_of
 
 TOP = os.path.dirname(os.path.dirname(os.path.realpath(__file__)))
@@ -225,7 +224,7 @@ def taken(folder):
         if not os.path.isdir(f"{folder}/tree"):
             write_tree(f"{folder}/tree")
         write(f"{folder}/tree/{path}", text)
-        step = repeated(f"{folder}/tree", kept_before, ["low"], ["bench"], words, steps.command(f"{folder}/tree", *words))
+        step = steps.repeated(f"{folder}/tree", kept_before, ["low"], ["bench"], words, steps.command(f"{folder}/tree", *words))
         found = step(Progress(out=NOWHERE))
         yield len(bytes_of(f"{folder}/ran")) == 2 * held and (found.passed, bool(found.failed)) == (3, text == "1\n")
 
