@@ -2,10 +2,10 @@
 use Rattle.std.specs.Prelude.{◌≡◌, ℕ, ◌≤◌, ◌⊎◌, Bool, Option, None, Some, MatchOption, slice_get, MatchBool, nat_le, OnOk, OnErr, ◌&&◌, [], length, replicate, pos, is_some, true, false}
 use Rattle.std.specs.FinMap as map
 use Rattle.nt_c.specs.declared.numbers.TheConstants.{INVALID_HANDLE, INVALID_PARAMETER, NO_MORE, OUT_OF_MEMORY, UNKNOWN_THREAD}
-use Rattle.nt_c.specs.declared.grants.NtGrant.{NtGrant}
+use Rattle.nt_c.specs.declared.reply.NtGrant.{NtGrant}
 use Rattle.nt_c.specs.declared.begins.NtBegun.{NtBegun}
 use Rattle.nt_c.specs.declared.handle.Nt.{Nt}
-use Rattle.nt_c.specs.declared.pending.NtPendingWait.{NtPendingWait}
+use Rattle.nt_c.specs.declared.sleeps.NtPendingWait.{NtPendingWait}
 use Rattle.nt_c.specs.declared.reply.NtReply.{NtReply}
 use Rattle.std.specs.declared.result.Result.{Result}
 use Rattle.std.specs.declared.result.Result.TheVariants.{Ok, Err}

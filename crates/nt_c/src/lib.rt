@@ -14,22 +14,15 @@
 //! given. Three functions of a line each touch it (`cell`, `held_mut`); all else is safe code.
 #![tactic(auto)]
 
-mod apcs;
 mod begins;
+mod calls;
 mod cell;
-mod events;
-mod grants;
 mod handle;
 mod held_mut;
 mod life;
 mod looks;
-mod mutexes;
 mod numbers;
-mod objects;
-mod pending;
 mod readers;
 mod reply;
-mod semaphores;
 mod sleeps;
-mod timers;
 mod waits;

@@ -1,7 +1,9 @@
-//! What a call tells C.
+//! What a call tells C: its reply, and the waits that it ended.
 ghost use Rattle.std.specs.Prelude.{◌≡◌, pos, false};
-ghost use Rattle.nt_c.specs.Asks.{error_of, reply_after, reply_in};
+ghost use Rattle.nt_c.specs.Asks.{IsFit, Keeps, ReadsGrant, error_of, reply_after, reply_in};
 
+use crate::handle::Nt;
+use crate::numbers::{INVALID_HANDLE, NO_MORE};
 use nt_core::Reply;
 use nt_status::Refusal;
 
@@ -79,4 +81,33 @@ pub(crate) fn tell(asked: Result<Reply, Refusal>, out: &mut NtReply) -> u32
         }
         Err(refusal) => refusal.number(),
     }
+}
+
+/// A wait that ended: its thread and its status.
+#[repr(C)]
+#[derive(Clone, Copy, PartialEq, Eq, Debug)]
+pub struct NtGrant {
+    pub thread: u32,
+    pub status: u32,
+}
+
+/// The wait at this index among those that the last call or tick ended, in the order in which they ended.
+///
+/// Refused with 6 where the handle has no dispatcher, and with 259 past the last.
+#[unsafe(no_mangle)]
+pub extern "C" fn nt_grant(nt: &mut Nt, index: usize, out: &mut NtGrant) -> u32
+    requires fit { IsFit nt.old }
+    ensures fit { IsFit nt.new }
+    ensures same { Keeps nt.old nt.new }
+    ensures reads { ReadsGrant index nt.old result out.old out.new }
+{
+    if !nt.live {
+        return INVALID_HANDLE;
+    }
+    let Some(grant) = nt.cell.held_mut().core().grants().get(index) else {
+        return NO_MORE;
+    };
+    out.thread = u32::from(grant.thread.get());
+    out.status = grant.status.code();
+    0
 }
