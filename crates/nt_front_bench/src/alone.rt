@@ -1,9 +1,9 @@
 //! What one thread does.
-use crate::moves::{call, nanos_since, now, try_wait, wait_for};
-use crate::shapes::{Company, FrontShape, RoundKind};
-use crate::told::Measurement;
 use nt_core::Act;
 use nt_front::{Front, Named, Pass};
+use nt_front_shapes::{
+    Company, FrontShape, Measurement, RoundKind, call, nanos_since, now, try_wait, wait_for,
+};
 use nt_status::{Handle, Moment, Status, UNITS_PER_MS};
 use std::alloc::Global;
 use std::sync::Wait;

@@ -1,12 +1,10 @@
 //! The pairs of one thread beside another that waits. A program that needs a lock has several threads, and some C libraries take a lock
 //! with no atomic step while there is only one.
 use crate::alone::{rounds_of, set_stage};
-use crate::moves::{call, wait_for};
 use crate::pair::SideResult;
-use crate::shapes::FrontShape;
-use crate::told::Measurement;
 use nt_core::Act;
 use nt_front::{Carried, Front, Named, Pass};
+use nt_front_shapes::{FrontShape, Measurement, call, wait_for};
 use std::alloc::Global;
 use std::sync::Wait;
 use std::thread::{self, Threads};

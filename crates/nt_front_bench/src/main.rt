@@ -9,17 +9,13 @@ ghost use Rattle.std.specs.Prelude.{◌≡◌};
 mod alone;
 mod beside;
 mod measure;
-mod moves;
 mod pair;
-mod parts;
 mod queue;
-mod shapes;
-mod told;
 mod workers;
 
 use measure::measure;
 use nt_front::PackedEntry;
-use shapes::{FrontShape, SHAPES, shape_named};
+use nt_front_shapes::{FrontBenchFault, FrontShape, Measurement, SHAPES, shape_named};
 use std::alloc::Global;
 use std::env;
 use std::io::{self, Write};
@@ -28,7 +24,6 @@ use std::process::ExitCode;
 use std::sync::Wait;
 use std::thread::Threads;
 use std::time::Clock;
-use told::{FrontBenchFault, Measurement};
 
 /// How often a round is made where nothing is timed.
 const FEW: u32 = 3;

@@ -3,15 +3,15 @@ ghost use Rattle.std.specs.Prelude.{◌≡◌, ◌+◌, ◌<◌, ◌≤◌, [], 
 
 use crate::alone::alone;
 use crate::beside::beside;
-use crate::moves::{nanos_since, now};
 use crate::pair::round_trips;
-use crate::parts::{bare_lock, core_alone, core_and_journal};
 use crate::queue::one_of_64;
-use crate::shapes::{Company, FrontShape, RoundKind};
-use crate::told::{FrontBenchFault, Measurement};
 use crate::workers::{WorkerObjects, WorkerResult, with_all};
 use nt_core::{Act, Call};
 use nt_front::{Blank, Carried, Front, Held, History, Named, Pass, ReadEntry, open, prepare};
+use nt_front_shapes::{
+    Company, FrontBenchFault, FrontShape, Measurement, RoundKind, bare_lock, core_alone,
+    core_and_journal, nanos_since, now,
+};
 use nt_status::Handle;
 use std::alloc::{AllocError, Global};
 use std::marker::Brand;

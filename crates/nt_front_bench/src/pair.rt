@@ -1,10 +1,8 @@
 //! Two threads set each other's event and wait for their own.
 use crate::alone::set_stage;
-use crate::moves::{call, nanos_since, now, wait_for};
-use crate::shapes::FrontShape;
-use crate::told::Measurement;
 use nt_core::Act;
 use nt_front::{Carried, Front, Named, Pass};
+use nt_front_shapes::{FrontShape, Measurement, call, nanos_since, now, wait_for};
 use nt_status::Handle;
 use std::alloc::Global;
 use std::sync::Wait;

@@ -1,10 +1,8 @@
 //! 64 threads wait for all of a common event and one of their own.
 use crate::alone::set_stage;
-use crate::moves::{call, nanos_since, now, objects};
-use crate::shapes::FrontShape;
-use crate::told::Measurement;
 use nt_core::Act;
 use nt_front::{Begun, Carried, Front, Named, Pass, Polled, Sleeper};
+use nt_front_shapes::{FrontShape, Measurement, call, nanos_since, now, objects};
 use nt_status::{Handle, INFINITE};
 use std::alloc::Global;
 use std::mem;

@@ -1,10 +1,9 @@
 //! Workers take a mutex, release a semaphore and release the mutex, as `ntrun threads` has them do.
 ghost use Rattle.std.specs.Prelude.{◌≡◌, ◌+◌, ◌<◌, ◌≤◌, [], vec_len, vec_capacity};
 
-use crate::moves::{call, objects, wait, wait_for};
-use crate::told::Measurement;
 use nt_core::Act;
 use nt_front::{Carried, Exited, Front, Held, History, Named, Pass};
+use nt_front_shapes::{Measurement, call, objects, wait, wait_for};
 use nt_status::{Handle, INFINITE};
 use std::alloc::Global;
 use std::sync::Wait;
