@@ -96,7 +96,7 @@ static void call_up(struct seat *caller, struct seat *seat)
     tell(caller, seat, IS_CALLED);
 }
 
-/* The same as `note`, where there is somebody to tell: the first is in the caller's seat. */
+/* The same as `note`, where there is somebody to tell: the first is in the caller's seat. Once no wait pends there is nobody left to ask for. */
 __attribute__((noinline)) static void note_all(struct seat *caller)
 {
     size_t index = 0;
@@ -106,7 +106,7 @@ __attribute__((noinline)) static void note_all(struct seat *caller)
             call_up(caller, seat);
         else
             wake_up(caller, seat, caller->told.status);
-    } while (nt_told(&waiting.dispatcher, ++index, &caller->told) == 0);
+    } while (waiting.pending != 0 && nt_told(&waiting.dispatcher, ++index, &caller->told) == 0);
 }
 
 /* Tells, under the lock, those whose waits the last call or tick ended, and who is called: none where none pends. No thread's wait ends
