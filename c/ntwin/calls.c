@@ -88,7 +88,7 @@ NTW_INTERNAL uint32_t close_number(struct seat *caller, uint32_t number)
     if (waiting.pasts[number] != NULL) {
         forget_past(number);
     } else if (kind_of(number) == KIND_THREAD && waiting.seats[thread_of(number)].has_left) {
-        note(caller);
+        ntw_note(caller);
         renew_seats();
     }
     return 0;
@@ -134,9 +134,9 @@ NTW_INTERNAL DWORD rights_of(enum kind kind, DWORD access)
 /* ---- A call: the caller joins and takes the lock, makes the call, and gives the lock back. */
 
 /* The caller's seat, with the lock taken; null, with the last error set, where it has none, or can't take the lock. */
-NTW_ALWAYS_INLINE struct seat *begin(void)
+NTW_ALWAYS_INLINE struct seat *ntw_begin(void)
 {
-    struct seat *seat = join();
+    struct seat *seat = ntw_join();
     return seat != NULL && __builtin_expect(lock(seat), true) ? seat : NULL;
 }
 
@@ -144,11 +144,11 @@ NTW_ALWAYS_INLINE struct seat *begin(void)
 __attribute__((noinline, cold)) static BOOL fail_call(struct seat *seat, uint32_t refused)
 {
     unlock_and_wake(seat);
-    return fail(refused);
+    return ntw_fail(refused);
 }
 
 /* Gives the lock back, wakes whom the call granted, and answers whether it was accepted. */
-NTW_INLINE BOOL finish(struct seat *seat, uint32_t refused)
+NTW_INLINE BOOL ntw_finish(struct seat *seat, uint32_t refused)
 {
     if (refused != 0)
         return fail_call(seat, refused);
@@ -160,7 +160,7 @@ NTW_INLINE BOOL finish(struct seat *seat, uint32_t refused)
 NTW_INLINE BOOL end_look(struct seat *seat, uint32_t refused)
 {
     unlock_and_wake(seat);
-    return refused == 0 || fail(refused);
+    return refused == 0 || ntw_fail(refused);
 }
 
 /* The rights that a creation or an opening of this kind asks for. */
@@ -234,7 +234,7 @@ static uint32_t make_without_name(struct seat *seat, const struct wanted *wanted
 NTW_INTERNAL HANDLE finish_creation(struct seat *seat, uint32_t refused, const struct nt_reply *reply, DWORD error)
 {
     HANDLE made = refused == 0 ? give_handle(reply->number) : NULL;
-    if (finish(seat, refused))
+    if (ntw_finish(seat, refused))
         own.last_error = error;
     return made;
 }
@@ -247,10 +247,10 @@ static HANDLE create_named(const struct wanted *wanted, struct given_name given)
     uint32_t refused = read_name(given, &name);
     struct named *fresh = refused == 0 ? make_named(&name) : NULL;
     if (fresh == NULL) {
-        fail(refused != 0 ? refused : ERROR_NOT_ENOUGH_MEMORY);
+        ntw_fail(refused != 0 ? refused : ERROR_NOT_ENOUGH_MEMORY);
         return NULL;
     }
-    struct seat *seat = begin();
+    struct seat *seat = ntw_begin();
     struct named *named = seat != NULL ? find_named(name.text) : NULL;
     if (named != NULL)
         refused = named->kind != wanted->kind ? ERROR_INVALID_HANDLE
@@ -264,18 +264,18 @@ static HANDLE create_named(const struct wanted *wanted, struct given_name given)
 }
 
 /* An empty name is no name. */
-NTW_INTERNAL HANDLE create(const struct wanted *wanted, struct given_name given)
+NTW_INTERNAL HANDLE ntw_create(const struct wanted *wanted, struct given_name given)
 {
     struct nt_reply reply;
     const bool is_semaphore = wanted->kind == KIND_SEMAPHORE;
     if ((wanted->flags & ~wanted->known_flags) != 0
         || (is_semaphore && (wanted->initial < 0 || wanted->maximum <= 0 || wanted->initial > wanted->maximum))) {
-        fail(ERROR_INVALID_PARAMETER);
+        ntw_fail(ERROR_INVALID_PARAMETER);
         return NULL;
     }
     if (is_named(given))
         return create_named(wanted, given);
-    struct seat *seat = begin();
+    struct seat *seat = ntw_begin();
     if (seat == NULL)
         return NULL;
     return finish_creation(seat, make_without_name(seat, wanted, &reply), &reply, ERROR_SUCCESS);

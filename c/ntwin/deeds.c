@@ -7,10 +7,10 @@ static void write_time_since(struct report *to, uint64_t when)
 {
     const uint64_t now = coarsely(), since = now > when ? now - when : 0;
     if (since < MOMENTS_PER_SECOND)
-        add(to, "%u ms ago", (unsigned)(since / (MOMENTS_PER_SECOND / 1000)));
+        ntw_add(to, "%u ms ago", (unsigned)(since / (MOMENTS_PER_SECOND / 1000)));
     else
-        add(to, "%llu.%u s ago", (unsigned long long)(since / MOMENTS_PER_SECOND),
-            (unsigned)(since % MOMENTS_PER_SECOND / (MOMENTS_PER_SECOND / 10)));
+        ntw_add(to, "%llu.%u s ago", (unsigned long long)(since / MOMENTS_PER_SECOND),
+                (unsigned)(since % MOMENTS_PER_SECOND / (MOMENTS_PER_SECOND / 10)));
 }
 
 /* Where and when what is noted was called. */
@@ -37,7 +37,7 @@ static void write_doer(struct report *to, const char *deed, const struct noted *
 static void write_ended(struct report *to, const struct noted *it)
 {
     if (it->ended > 0)
-        add(to, ", which ended %u wait%s", it->ended, it->ended == 1 ? "" : "s");
+        ntw_add(to, ", which ended %u wait%s", it->ended, it->ended == 1 ? "" : "s");
     else
         add_text(to, it->was_awaited ? ", which ended no wait" : ", when nobody waited");
 }
@@ -62,7 +62,7 @@ static void write_signal(struct report *to, uint32_t kind, const struct noted *i
         return;
     case WAS_RELEASED:
         write_doer(to, "; released by ", it);
-        add(to, ", by %d", it->count);
+        ntw_add(to, ", by %d", it->count);
         break;
     default:
         write_doer(to, it->deed == WAS_SET ? "; set by " : "; pulsed by ", it);

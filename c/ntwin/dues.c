@@ -5,7 +5,7 @@
 #include "internal.h"
 
 /* When the timer that is this object is due, under the lock: NEVER where it is not set. */
-NTW_INTERNAL uint64_t due_of(uint32_t object)
+NTW_INTERNAL uint64_t ntw_due_of(uint32_t object)
 {
     struct nt_object timer;
     return nt_object(&waiting.dispatcher, object, &timer) == 0 && timer.armed ? timer.due : NEVER;
@@ -19,7 +19,7 @@ NTW_INTERNAL uint64_t first_minded(struct seat *seat)
     uint32_t minded = 0;
     for (uint32_t i = 0; i < seat->minded; i++) {
         const uint32_t object = seat->timers[i];
-        const uint64_t due = waiting.minders[object] == seat->number + 1 ? due_of(object) : NEVER;
+        const uint64_t due = waiting.minders[object] == seat->number + 1 ? ntw_due_of(object) : NEVER;
         if (due == NEVER)
             continue;
         seat->timers[minded++] = object;

@@ -22,7 +22,7 @@ NTW_INTERNAL void wake_one(_Atomic uint32_t *word);
 
 NTW_VARIABLE const int64_t unix_epoch;
 
-NTW_INTERNAL BOOL fail(uint32_t refused);
+NTW_INTERNAL BOOL ntw_fail(uint32_t refused);
 NTW_INTERNAL uint64_t in_moments(const struct timespec *time);
 NTW_INTERNAL uint64_t monotonic(void);
 NTW_INTERNAL uint64_t coarsely(void);
@@ -150,7 +150,7 @@ NTW_INTERNAL bool is_free_in_child(void);
 
 /* ---- dues.c */
 
-NTW_INTERNAL uint64_t due_of(uint32_t object);
+NTW_INTERNAL uint64_t ntw_due_of(uint32_t object);
 NTW_INTERNAL uint64_t first_minded(struct seat *seat);
 NTW_INTERNAL void note_routine(struct seat *seat, uint32_t timer, bool has_routine);
 
@@ -164,7 +164,7 @@ struct dues {
 
 NTW_INTERNAL void look_for_timers(void);
 NTW_INTERNAL void stop_watching(struct seat *seat);
-NTW_INTERNAL void note(struct seat *caller);
+NTW_INTERNAL void ntw_note(struct seat *caller);
 NTW_INTERNAL uint64_t pass_time(struct seat *caller);
 NTW_INTERNAL void catch_up(struct seat *caller);
 NTW_INTERNAL void see_to_the_overdue(struct seat *caller);
@@ -189,7 +189,7 @@ NTW_INTERNAL void renew_seats(void);
 NTW_INTERNAL struct seat *take_seat(void);
 NTW_INTERNAL void give_seat(struct seat *seat);
 NTW_INTERNAL void leave(struct seat *seat);
-NTW_INTERNAL struct seat *join(void);
+NTW_INTERNAL struct seat *ntw_join(void);
 NTW_INTERNAL bool join_those_who_are_gone(struct seat *caller);
 
 /* ---- calls.c */
@@ -218,13 +218,13 @@ NTW_INTERNAL enum kind kind_of(uint32_t number);
 NTW_INTERNAL uint32_t close_number(struct seat *caller, uint32_t number);
 NTW_INTERNAL uint32_t close_programs_number(struct seat *caller, uint32_t number, struct port **port);
 NTW_INTERNAL DWORD rights_of(enum kind kind, DWORD access);
-NTW_INTERNAL struct seat *begin(void);
-NTW_INTERNAL BOOL finish(struct seat *seat, uint32_t refused);
+NTW_INTERNAL struct seat *ntw_begin(void);
+NTW_INTERNAL BOOL ntw_finish(struct seat *seat, uint32_t refused);
 NTW_INTERNAL BOOL end_look(struct seat *seat, uint32_t refused);
 NTW_INTERNAL DWORD rights_asked(enum kind kind, DWORD access);
 NTW_INTERNAL void note_made(uint32_t number, const void *place);
 NTW_INTERNAL HANDLE finish_creation(struct seat *seat, uint32_t refused, const struct nt_reply *reply, DWORD error);
-NTW_INTERNAL HANDLE create(const struct wanted *wanted, struct given_name given);
+NTW_INTERNAL HANDLE ntw_create(const struct wanted *wanted, struct given_name given);
 
 /* ---- objects.c */
 
@@ -248,7 +248,7 @@ struct report {
     bool failed;         /* memory was refused */
 };
 
-__attribute__((format(printf, 2, 3))) NTW_INTERNAL void add(struct report *to, const char *format, ...);
+__attribute__((format(printf, 2, 3))) NTW_INTERNAL void ntw_add(struct report *to, const char *format, ...);
 NTW_INTERNAL void add_text(struct report *to, const char *text);
 NTW_INTERNAL void add_letter(struct report *to, char letter);
 NTW_INTERNAL char *text_written_by(void (*write)(struct report *to, const char *from), const char *from);
@@ -286,7 +286,7 @@ struct loaded {
     char note[NOTES_AT_MOST];
 };
 
-NTW_INTERNAL bool is_in(const struct dl_phdr_info *info, uintptr_t address);
+NTW_INTERNAL bool ntw_is_in(const struct dl_phdr_info *info, uintptr_t address);
 NTW_INTERNAL int find_loaded(struct dl_phdr_info *info, size_t size, void *at);
 NTW_INTERNAL int find_file(struct dl_phdr_info *info, size_t size, void *at);
 NTW_INTERNAL size_t first_place_from(const struct places *places, uintptr_t address);
@@ -351,7 +351,7 @@ NTW_INTERNAL void write_with_places(struct report *to, const char *text);
 /* ---- looking.c */
 
 NTW_INTERNAL char *text_of_why(void);
-NTW_INTERNAL void say(const char *text);
+NTW_INTERNAL void ntw_say(const char *text);
 
 /* Why threads wait, under the lock, and telling that on standard error, without it (looking.c). */
 NTW_INTERNAL char *text_of_knot(void);

@@ -75,7 +75,7 @@ static bool has_error(void)
 }
 
 /* Writes to standard error, where there is one. (Not through its stream: who waits may hold that.) */
-NTW_INTERNAL void say(const char *text)
+NTW_INTERNAL void ntw_say(const char *text)
 {
     const int error = errno;
     struct quiet quiet;
@@ -100,7 +100,7 @@ NTW_INTERNAL void say(const char *text)
 /* Says this text, and frees it. */
 static void say_text(char *text)
 {
-    say(text != NULL ? text : no_memory);
+    ntw_say(text != NULL ? text : no_memory);
     free(text);
 }
 
@@ -126,13 +126,13 @@ static void call_thread(HANDLE thread, const char *name)
         wide[length] = (unsigned char)name[length];
     wide[length] = 0;
     if (SetThreadDescription(thread, wide) == E_OUTOFMEMORY)
-        fail(ERROR_NOT_ENOUGH_MEMORY);
+        ntw_fail(ERROR_NOT_ENOUGH_MEMORY);
 }
 
 void ntwin_name(HANDLE handle, const char *name)
 {
     struct nt_opened opened;
-    struct seat *seat = begin();
+    struct seat *seat = ntw_begin();
     if (seat == NULL)
         return;
     const uint32_t number = number_of(seat, handle), refused = nt_opened(&waiting.dispatcher, number, &opened);
@@ -231,7 +231,7 @@ static void begin_telling(void)
         telling_thread.has_blocked = sigismember(&before, SIGQUIT) == 0;
         sigaddset(&before, SIGQUIT);
     } else {
-        say("ntwin: NTWIN_WHY: no thread could be made for SIGQUIT\n");
+        ntw_say("ntwin: NTWIN_WHY: no thread could be made for SIGQUIT\n");
     }
     pthread_sigmask(SIG_SETMASK, &before, NULL);
 }
@@ -246,14 +246,14 @@ static void begin_looking(const char *why, const char *path)
             begin_noting();
             begin_telling();
         } else {
-            say("ntwin: NTWIN_WHY is none of signal, knot, abort\n");
+            ntw_say("ntwin: NTWIN_WHY is none of signal, knot, abort\n");
         }
     }
     const int refused = path != NULL ? open_journal(path) : 0;
     if (refused != 0) {
         char line[256];
         snprintf(line, sizeof line, "ntwin: NTWIN_JOURNAL: no journal is written: %s\n", strerror(refused));
-        say(line);
+        ntw_say(line);
     }
     if (noted != NULL || tells_knots || journal.text != NULL)
         made_by = looked_calls;

@@ -20,14 +20,14 @@ NTW_INTERNAL void write_wide_name(struct report *to, const WCHAR *name)
 /* Writes a place as a number between two of these marks. */
 NTW_INTERNAL void write_mark(struct report *to, char mark, uintptr_t place)
 {
-    add(to, "%c%zx%c", mark, (size_t)place, mark);
+    ntw_add(to, "%c%zx%c", mark, (size_t)place, mark);
 }
 
 /* Writes a thread by its number and its name; where the program gave it none, by the routine that it began with. */
 NTW_INTERNAL void write_thread(struct report *to, uint32_t number)
 {
     const WCHAR *name = waiting.seats[number].life.description;
-    add(to, "t%u", scheduled_number(number));
+    ntw_add(to, "t%u", scheduled_number(number));
     if (name != NULL && *name != 0) {
         add_letter(to, ' ');
         write_wide_name(to, name);

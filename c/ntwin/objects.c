@@ -5,8 +5,8 @@
 
 NTW_INTERNAL HANDLE create_event(struct given_name name, DWORD flags, DWORD access)
 {
-    return create(&(struct wanted){ .kind = KIND_EVENT, .make = nt_create_event, .flags = flags, .access = access, .place = name.place,
-                                    .known_flags = CREATE_EVENT_MANUAL_RESET | CREATE_EVENT_INITIAL_SET }, name);
+    return ntw_create(&(struct wanted){ .kind = KIND_EVENT, .make = nt_create_event, .flags = flags, .access = access, .place = name.place,
+                                        .known_flags = CREATE_EVENT_MANUAL_RESET | CREATE_EVENT_INITIAL_SET }, name);
 }
 
 HANDLE CreateEventExA(LPSECURITY_ATTRIBUTES attributes, LPCSTR name, DWORD flags, DWORD access)
@@ -45,47 +45,47 @@ __attribute__((noinline, cold)) static BOOL set_event_beside_wait(struct seat *s
     struct nt_reply reply;
     if (refused == NT_ERROR_THREAD_WAITING && waiting.seated < waiting.places)
         refused = nt_set_event(&waiting.dispatcher, waiting.places - 1, event, &reply);
-    return finish(seat, refused);
+    return ntw_finish(seat, refused);
 }
 
 BOOL SetEvent(HANDLE event)
 {
-    struct seat *seat = begin();
+    struct seat *seat = ntw_begin();
     if (seat == NULL)
         return FALSE;
     note_call(seat);
     const uint32_t number = number_of(seat, event), refused = nt_set_event(&waiting.dispatcher, seat->number, number, &seat->reply);
     if (__builtin_expect(refused != 0, false))
         return set_event_beside_wait(seat, number, refused);
-    return finish(seat, 0);
+    return ntw_finish(seat, 0);
 }
 
 BOOL ResetEvent(HANDLE event)
 {
-    struct seat *seat = begin();
+    struct seat *seat = ntw_begin();
     if (seat == NULL)
         return FALSE;
     note_call(seat);
     const uint32_t number = number_of(seat, event);
-    return finish(seat, nt_reset_event(&waiting.dispatcher, seat->number, number, &seat->reply));
+    return ntw_finish(seat, nt_reset_event(&waiting.dispatcher, seat->number, number, &seat->reply));
 }
 
 BOOL PulseEvent(HANDLE event)
 {
-    struct seat *seat = begin();
+    struct seat *seat = ntw_begin();
     if (seat == NULL)
         return FALSE;
     note_call(seat);
     const uint32_t number = number_of(seat, event);
-    return finish(seat, nt_pulse_event(&waiting.dispatcher, seat->number, number, &seat->reply));
+    return ntw_finish(seat, nt_pulse_event(&waiting.dispatcher, seat->number, number, &seat->reply));
 }
 
 /* ---- Semaphores. */
 
 NTW_INTERNAL HANDLE create_semaphore(struct given_name name, LONG initial, LONG maximum, DWORD flags, DWORD access)
 {
-    return create(&(struct wanted){ .kind = KIND_SEMAPHORE, .initial = initial, .maximum = maximum, .flags = flags, .access = access,
-                                    .place = name.place }, name);
+    return ntw_create(&(struct wanted){ .kind = KIND_SEMAPHORE, .initial = initial, .maximum = maximum, .flags = flags, .access = access,
+                                        .place = name.place }, name);
 }
 
 HANDLE CreateSemaphoreExA(LPSECURITY_ATTRIBUTES attributes, LONG initial, LONG maximum, LPCSTR name, DWORD flags, DWORD access)
@@ -114,14 +114,14 @@ HANDLE CreateSemaphoreW(LPSECURITY_ATTRIBUTES attributes, LONG initial, LONG max
 
 BOOL ReleaseSemaphore(HANDLE semaphore, LONG count, LPLONG previous)
 {
-    struct seat *seat = begin();
+    struct seat *seat = ntw_begin();
     if (seat == NULL)
         return FALSE;
     note_call(seat);
     const uint32_t number = number_of(seat, semaphore);
     const uint32_t refused = nt_release_semaphore(&waiting.dispatcher, seat->number, number, count, &seat->reply);
     const LONG before = seat->reply.previous;
-    if (!finish(seat, refused))
+    if (!ntw_finish(seat, refused))
         return FALSE;
     if (previous != NULL)
         *previous = before;
@@ -132,8 +132,8 @@ BOOL ReleaseSemaphore(HANDLE semaphore, LONG count, LPLONG previous)
 
 NTW_INTERNAL HANDLE create_mutex(struct given_name name, DWORD flags, DWORD access)
 {
-    return create(&(struct wanted){ .kind = KIND_MUTEX, .make = nt_create_mutex, .flags = flags, .access = access, .place = name.place,
-                                    .known_flags = CREATE_MUTEX_INITIAL_OWNER }, name);
+    return ntw_create(&(struct wanted){ .kind = KIND_MUTEX, .make = nt_create_mutex, .flags = flags, .access = access, .place = name.place,
+                                        .known_flags = CREATE_MUTEX_INITIAL_OWNER }, name);
 }
 
 HANDLE CreateMutexExA(LPSECURITY_ATTRIBUTES attributes, LPCSTR name, DWORD flags, DWORD access)
@@ -162,19 +162,19 @@ HANDLE CreateMutexW(LPSECURITY_ATTRIBUTES attributes, BOOL owned, LPCWSTR name)
 
 BOOL ReleaseMutex(HANDLE mutex)
 {
-    struct seat *seat = begin();
+    struct seat *seat = ntw_begin();
     if (seat == NULL)
         return FALSE;
     const uint32_t number = number_of(seat, mutex);
-    return finish(seat, nt_release_mutex(&waiting.dispatcher, seat->number, number, &seat->reply));
+    return ntw_finish(seat, nt_release_mutex(&waiting.dispatcher, seat->number, number, &seat->reply));
 }
 
 /* ---- Waitable timers. */
 
 NTW_INTERNAL HANDLE create_timer(struct given_name name, DWORD flags, DWORD access)
 {
-    return create(&(struct wanted){ .kind = KIND_TIMER, .make = nt_create_timer, .flags = flags, .access = access, .place = name.place,
-                                    .known_flags = CREATE_WAITABLE_TIMER_MANUAL_RESET }, name);
+    return ntw_create(&(struct wanted){ .kind = KIND_TIMER, .make = nt_create_timer, .flags = flags, .access = access, .place = name.place,
+                                        .known_flags = CREATE_WAITABLE_TIMER_MANUAL_RESET }, name);
 }
 
 HANDLE CreateWaitableTimerExA(LPSECURITY_ATTRIBUTES attributes, LPCSTR name, DWORD flags, DWORD access)
@@ -215,9 +215,9 @@ BOOL SetWaitableTimer(HANDLE timer, const LARGE_INTEGER *due, LONG period, PTIME
 {
     (void)resume;
     if (due == NULL)
-        return fail(ERROR_INVALID_PARAMETER);
+        return ntw_fail(ERROR_INVALID_PARAMETER);
     const int64_t time = due->QuadPart;
-    struct seat *seat = join();
+    struct seat *seat = ntw_join();
     if (seat == NULL || !take_lock_for(seat))
         return FALSE;
     STEP_OF(seat, word, NULL, Enters);
@@ -225,12 +225,12 @@ BOOL SetWaitableTimer(HANDLE timer, const LARGE_INTEGER *due, LONG period, PTIME
     const int64_t moment = time < 0 ? time : moment_of(time);
     const uint32_t number = number_of(seat, timer), refused = set_timer(seat, number, moment, period, routine, argument);
     if (refused == 0) {
-        note(seat);
+        ntw_note(seat);
         note_routine(seat, number, routine != NULL);
         note_timer(now, moment < 0 ? now - (uint64_t)moment : (uint64_t)moment);
     }
     unlock_and_wake(seat);
-    return refused == 0 ? TRUE : fail(refused);
+    return refused == 0 ? TRUE : ntw_fail(refused);
 }
 
 BOOL SetWaitableTimerEx(HANDLE timer, const LARGE_INTEGER *due, LONG period, PTIMERAPCROUTINE routine, LPVOID argument,
@@ -243,11 +243,11 @@ BOOL SetWaitableTimerEx(HANDLE timer, const LARGE_INTEGER *due, LONG period, PTI
 
 BOOL CancelWaitableTimer(HANDLE timer)
 {
-    struct seat *seat = begin();
+    struct seat *seat = ntw_begin();
     if (seat == NULL)
         return FALSE;
     const uint32_t refused = nt_cancel_timer(&waiting.dispatcher, seat->number, number_of(seat, timer), &seat->reply);
     look_for_timers();
-    return finish(seat, refused);
+    return ntw_finish(seat, refused);
 }
 

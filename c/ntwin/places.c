@@ -40,7 +40,7 @@ NTW_INTERNAL void write_with_callers(struct report *to, const char *text)
     struct stack *stacks = NULL;
     uintptr_t number;
     for (const char *mark; *(mark = next_mark(text)) != 0;) {
-        add(to, "%.*s", (int)(mark - text), text);
+        ntw_add(to, "%.*s", (int)(mark - text), text);
         text = read_number(mark, &number);
         if (*mark == MARK_OF_STACKS)
             stacks = (struct stack *)number;
@@ -136,12 +136,12 @@ static void write_found(struct report *to, const struct place *place)
     const size_t offset = place->address - place->base;
     if (place->function[0] != 0) {
         write_name_of(to, place->function);
-        add(to, "+0x%zx (", offset - (size_t)place->begin);
+        ntw_add(to, "+0x%zx (", offset - (size_t)place->begin);
     }
     if (place->line[0] != 0)
         write_name_of(to, place->line);
     else
-        add(to, "%s+0x%zx", place->file, offset);
+        ntw_add(to, "%s+0x%zx", place->file, offset);
     add_text(to, place->function[0] != 0 ? ")" : "");
 }
 
@@ -153,7 +153,7 @@ static void write_marked(struct report *to, const struct places *places, char ma
     if (mark == MARK && place != NULL) {
         write_found(to, place);
     } else if (mark == MARK) {
-        add(to, "0x%zx", (size_t)address);
+        ntw_add(to, "0x%zx", (size_t)address);
     } else if (place != NULL && place->function[0] != 0 && place->begin == address - place->base) {
         add_letter(to, ' ');
         write_name_of(to, place->function);
@@ -170,7 +170,7 @@ NTW_INTERNAL void write_with_places(struct report *to, const char *text)
     if (!is_scheduled) /* (Who runs a program by many schedules asks for the lines once.) */
         look_up(&places);
     for (const char *mark; *(mark = next_mark(text)) != 0;) {
-        add(to, "%.*s", (int)(mark - text), text);
+        ntw_add(to, "%.*s", (int)(mark - text), text);
         text = read_mark(mark, &address);
         write_marked(to, &places, *mark, address);
     }

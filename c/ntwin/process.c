@@ -84,10 +84,10 @@ HANDLE CreateThread(LPSECURITY_ATTRIBUTES attributes, SIZE_T stack, LPTHREAD_STA
     struct seat *seat;
     (void)attributes;
     if (start == NULL || (flags & ~(CREATE_SUSPENDED | STACK_SIZE_PARAM_IS_A_RESERVATION)) != 0) {
-        fail(ERROR_INVALID_PARAMETER);
+        ntw_fail(ERROR_INVALID_PARAMETER);
         return NULL;
     }
-    struct seat *caller = join();
+    struct seat *caller = ntw_join();
     if (caller == NULL)
         return NULL;
     if (by_schedule())
@@ -96,13 +96,13 @@ HANDLE CreateThread(LPSECURITY_ATTRIBUTES attributes, SIZE_T stack, LPTHREAD_STA
         return NULL;
     struct runner *runner = calloc(1, sizeof *runner);
     if (runner == NULL) {
-        fail(ERROR_NOT_ENOUGH_MEMORY);
+        ntw_fail(ERROR_NOT_ENOUGH_MEMORY);
         return NULL;
     }
     lock(caller);
     const uint32_t refused = seat_thread(caller, &seat, &reply);
     HANDLE made = refused == 0 ? give_handle(reply.number) : NULL;
-    if (!finish(caller, refused)) {
+    if (!ntw_finish(caller, refused)) {
         free(runner);
         return NULL;
     }
@@ -117,9 +117,9 @@ HANDLE CreateThread(LPSECURITY_ATTRIBUTES attributes, SIZE_T stack, LPTHREAD_STA
         lock(caller);
         const uint32_t unclosed = close_number(caller, reply.number);
         give_seat(seat);
-        finish(caller, unclosed);
+        ntw_finish(caller, unclosed);
         free(runner);
-        fail(NT_ERROR_NOT_ENOUGH_MEMORY);
+        ntw_fail(NT_ERROR_NOT_ENOUGH_MEMORY);
         return NULL;
     }
     return made;
@@ -172,7 +172,7 @@ DWORD GetCurrentProcessId(void)
 BOOL TerminateProcess(HANDLE process, UINT code)
 {
     if (process != CURRENT_PROCESS)
-        return fail(ERROR_INVALID_HANDLE);
+        return ntw_fail(ERROR_INVALID_HANDLE);
     _exit((int)code);
 }
 
@@ -212,8 +212,8 @@ BOOL DuplicateHandle(HANDLE from, HANDLE handle, HANDLE to, LPHANDLE duplicate, 
     if (from == CURRENT_PROCESS && to == NULL && closes)
         return CloseHandle(handle);
     if (from != CURRENT_PROCESS || to != CURRENT_PROCESS)
-        return fail(ERROR_INVALID_HANDLE);
-    struct seat *seat = begin();
+        return ntw_fail(ERROR_INVALID_HANDLE);
+    struct seat *seat = ntw_begin();
     if (seat == NULL)
         return FALSE;
     HANDLE made = NULL;
@@ -232,7 +232,7 @@ BOOL DuplicateHandle(HANDLE from, HANDLE handle, HANDLE to, LPHANDLE duplicate, 
     /* (That a duplicate is refused keeps no source open.) */
     if (closes && handle != CURRENT_THREAD && handle != CURRENT_PROCESS)
         close_programs_number(seat, number, &port);
-    const BOOL is_made = finish(seat, refused);
+    const BOOL is_made = ntw_finish(seat, refused);
     if (port != NULL)
         close_port(port);
     if (!is_made)
@@ -247,8 +247,8 @@ BOOL CloseHandle(HANDLE handle)
     if (handle == CURRENT_PROCESS || handle == CURRENT_THREAD)
         return TRUE;
     struct port *port;
-    struct seat *seat = begin();
-    if (seat == NULL || !finish(seat, close_programs_number(seat, number_of(seat, handle), &port)))
+    struct seat *seat = ntw_begin();
+    if (seat == NULL || !ntw_finish(seat, close_programs_number(seat, number_of(seat, handle), &port)))
         return FALSE;
     if (port != NULL)
         close_port(port);

@@ -3,7 +3,7 @@
 #include "internal.h"
 
 /* Adds what the format makes of the rest, as printf does. */
-__attribute__((format(printf, 2, 3))) NTW_INTERNAL void add(struct report *to, const char *format, ...)
+__attribute__((format(printf, 2, 3))) NTW_INTERNAL void ntw_add(struct report *to, const char *format, ...)
 {
     va_list list;
     for (int round = 0; round < 2 && !to->failed; round++) {
@@ -26,12 +26,12 @@ __attribute__((format(printf, 2, 3))) NTW_INTERNAL void add(struct report *to, c
 
 NTW_INTERNAL void add_text(struct report *to, const char *text)
 {
-    add(to, "%s", text);
+    ntw_add(to, "%s", text);
 }
 
 NTW_INTERNAL void add_letter(struct report *to, char letter)
 {
-    add(to, "%c", letter);
+    ntw_add(to, "%c", letter);
 }
 
 /* What that function writes, as a text; null where memory is refused. Who asks for it frees it. */

@@ -291,7 +291,7 @@ static int walk_in(struct dl_phdr_info *info, size_t size, void *at)
     struct table table = { NULL, NULL, NULL, NULL };
     struct function function;
     (void)size;
-    if (!is_in(info, frame->place))
+    if (!ntw_is_in(info, frame->place))
         return 0;
     if (strstr(info->dlpi_name, "/libc.so") != NULL || !find_table(info, &table) || !find_function(&table, frame->place, &function))
         return 1;

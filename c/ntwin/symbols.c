@@ -37,7 +37,7 @@ static void copy_loaded(struct loaded *it, const struct dl_phdr_info *info)
 }
 
 /* Whether this place is in what was loaded so. */
-NTW_INTERNAL bool is_in(const struct dl_phdr_info *info, uintptr_t address)
+NTW_INTERNAL bool ntw_is_in(const struct dl_phdr_info *info, uintptr_t address)
 {
     for (int i = 0; i < info->dlpi_phnum; i++)
         if (info->dlpi_phdr[i].p_type == PT_LOAD && address - info->dlpi_addr - info->dlpi_phdr[i].p_vaddr < info->dlpi_phdr[i].p_memsz)
@@ -49,7 +49,7 @@ NTW_INTERNAL int find_loaded(struct dl_phdr_info *info, size_t size, void *at)
 {
     struct loaded *it = at;
     (void)size;
-    if (!is_in(info, it->address))
+    if (!ntw_is_in(info, it->address))
         return 0;
     copy_loaded(it, info);
     return 1;
@@ -59,7 +59,7 @@ NTW_INTERNAL int find_file(struct dl_phdr_info *info, size_t size, void *at)
 {
     struct place *place = at;
     (void)size;
-    if (!is_in(info, place->address))
+    if (!ntw_is_in(info, place->address))
         return 0;
     place->is_loaded = true;
     place->base = info->dlpi_addr;
@@ -264,7 +264,7 @@ static int give_exported(struct dl_phdr_info *info, size_t size, void *at)
     struct places *places = asked->places;
     struct exported it = { .symbols = NULL };
     (void)size;
-    if (info->dlpi_addr != asked->loaded->base || !is_in(info, asked->loaded->address))
+    if (info->dlpi_addr != asked->loaded->base || !ntw_is_in(info, asked->loaded->address))
         return 0;
     for (size_t i = 0; i < info->dlpi_phnum; i++)
         if (info->dlpi_phdr[i].p_type == PT_DYNAMIC)

@@ -145,10 +145,10 @@ NTW_INTERNAL void leave(struct seat *seat)
     STEP_OF(seat, word, NULL, Enters);
     see_to_the_overdue(seat);
     if (nt_close_handle(&waiting.dispatcher, seat->number, seat->handle, &seat->reply) == 0)
-        note(seat);
+        ntw_note(seat);
     if (nt_exit(&waiting.dispatcher, seat->number, &seat->reply) == 0) {
         tell_ending(seat);
-        note(seat);
+        ntw_note(seat);
         look_for_timers();
         end_seat(seat);
         wake_all(seat->woken, wakes_left());
@@ -161,7 +161,7 @@ NTW_INTERNAL void leave(struct seat *seat)
         stop_watching(seat);
         seat->is_gone = true;
         seat->moment = NEVER;
-        note(seat);
+        ntw_note(seat);
     }
     unlock_and_wake(seat);
 }
@@ -290,7 +290,7 @@ static uint32_t open_dispatcher(void)
 __attribute__((noinline, cold)) static struct seat *join_first(void)
 {
     if (own.joins) { /* (This is a handler of signals, which has interrupted that.) */
-        fail(ERROR_POSSIBLE_DEADLOCK);
+        ntw_fail(ERROR_POSSIBLE_DEADLOCK);
         return NULL;
     }
     own.joins = true;
@@ -300,7 +300,7 @@ __attribute__((noinline, cold)) static struct seat *join_first(void)
         refused = NT_ERROR_NOT_ENOUGH_MEMORY;
     if (refused != 0) {
         own.joins = false;
-        fail(refused);
+        ntw_fail(refused);
         return NULL;
     }
     take_lock();
@@ -312,13 +312,13 @@ __attribute__((noinline, cold)) static struct seat *join_first(void)
     own.joins = false;
     if (seat == NULL) {
         pthread_setspecific(process.leaving, NULL);
-        fail(ERROR_NO_SYSTEM_RESOURCES);
+        ntw_fail(ERROR_NO_SYSTEM_RESOURCES);
     }
     return own.seat;
 }
 
 /* The caller's seat, which it takes at its first call. Null, with the last error set, where it can't have one. */
-NTW_INLINE struct seat *join(void)
+NTW_INLINE struct seat *ntw_join(void)
 {
     struct seat *seat = own.seat;
     return seat != NULL ? seat : join_first();

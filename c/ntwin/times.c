@@ -16,7 +16,7 @@ static DWORD error_of(uint32_t refused)
 }
 
 /* Sets the last error, and answers FALSE. */
-__attribute__((noinline, cold)) NTW_INTERNAL BOOL fail(uint32_t refused)
+__attribute__((noinline, cold)) NTW_INTERNAL BOOL ntw_fail(uint32_t refused)
 {
     own.last_error = error_of(refused);
     return FALSE;

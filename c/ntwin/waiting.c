@@ -96,7 +96,7 @@ static void call_up(struct seat *caller, struct seat *seat)
     tell(caller, seat, IS_CALLED);
 }
 
-/* The same as `note`, where there is somebody to tell: the first is in the caller's seat. Once no wait pends there is nobody left to ask for. */
+/* The same as `ntw_note`, where there is somebody to tell: the first is in the caller's seat. Once no wait pends there is nobody left to ask for. */
 __attribute__((noinline)) static void note_all(struct seat *caller)
 {
     size_t index = 0;
@@ -111,7 +111,7 @@ __attribute__((noinline)) static void note_all(struct seat *caller)
 
 /* Tells, under the lock, those whose waits the last call or tick ended, and who is called: none where none pends. No thread's wait ends
  * twice before the lock is given back. */
-NTW_INLINE void note(struct seat *caller)
+NTW_INLINE void ntw_note(struct seat *caller)
 {
     if (waiting.pending != 0 && nt_told(&waiting.dispatcher, 0, &caller->told) == 0)
         note_all(caller);
@@ -124,7 +124,7 @@ NTW_INTERNAL uint64_t pass_time(struct seat *caller)
     nt_tick(&waiting.dispatcher, now);
     if (waiting.timers_due <= now)
         waiting.timers_due = next_due();
-    note(caller);
+    ntw_note(caller);
     return now;
 }
 
@@ -210,11 +210,11 @@ NTW_ALWAYS_INLINE void unlock_and_wake(struct seat *caller)
 /* As `note_and_unlock`, where there may be somebody. */
 __attribute__((noinline)) static void note_and_unlock_all(struct seat *caller)
 {
-    note(caller);
+    ntw_note(caller);
     unlock_and_wake(caller);
 }
 
-/* As `note`, and then as `unlock_and_wake`: where no wait pended before the call, one look tells that there is nobody to tell or to wake. */
+/* As `ntw_note`, and then as `unlock_and_wake`: where no wait pended before the call, one look tells that there is nobody to tell or to wake. */
 NTW_INLINE void note_and_unlock(struct seat *caller)
 {
     if ((waiting.pending | waiting.wakes) == 0) {

@@ -5,11 +5,11 @@
 DWORD QueueUserAPC(PAPCFUNC routine, HANDLE thread, ULONG_PTR argument)
 {
     if (routine == NULL)
-        return (DWORD)fail(ERROR_INVALID_PARAMETER);
-    struct seat *seat = begin();
+        return (DWORD)ntw_fail(ERROR_INVALID_PARAMETER);
+    struct seat *seat = ntw_begin();
     return seat != NULL
-        && finish(seat, nt_queue_apc(&waiting.dispatcher, seat->number, number_of(seat, thread), (uint64_t)(uintptr_t)routine, argument,
-                                     &seat->reply));
+        && ntw_finish(seat, nt_queue_apc(&waiting.dispatcher, seat->number, number_of(seat, thread), (uint64_t)(uintptr_t)routine, argument,
+                                         &seat->reply));
 }
 
 /* Runs an APC. A timer's routine gets the moment at which the timer was due, in UTC. */
@@ -98,7 +98,7 @@ static struct dues dues_of(struct seat *seat, struct wait wait)
         dues.first = first_minded(seat);
     for (DWORD i = 0; i < wait.count; i++)
         if (kind_of(wait.numbers[i]) == KIND_TIMER && nt_opened(&waiting.dispatcher, wait.numbers[i], &opened) == 0) {
-            const uint64_t due = due_of(opened.object);
+            const uint64_t due = ntw_due_of(opened.object);
             dues.watches = true;
             dues.first = due < dues.first ? due : dues.first;
         }
@@ -109,14 +109,14 @@ static struct dues dues_of(struct seat *seat, struct wait wait)
 __attribute__((noinline, cold)) static DWORD fail_wait(struct seat *seat, uint32_t refused)
 {
     unlock_and_wake(seat);
-    fail(refused);
+    ntw_fail(refused);
     return WAIT_FAILED;
 }
 
 /* What a wait answers that pends: its status, once it is granted. */
 static inline DWORD finish_before_apcs(struct seat *seat, struct wait wait)
 {
-    note(seat);
+    ntw_note(seat);
     const struct dues dues = dues_of(seat, wait);
     note_registers(seat);
     const DWORD status = sleep_until_granted(seat, dues);
@@ -187,12 +187,12 @@ __attribute__((always_inline)) static inline DWORD wait_for_objects(DWORD count,
 {
     uint32_t numbers[MAXIMUM_WAIT_OBJECTS];
     if (objects == NULL || count > MAXIMUM_WAIT_OBJECTS) {
-        fail(ERROR_INVALID_PARAMETER);
+        ntw_fail(ERROR_INVALID_PARAMETER);
         return WAIT_FAILED;
     }
     if (count > 0)
         read_ends(objects, count);
-    struct seat *seat = begin();
+    struct seat *seat = ntw_begin();
     if (seat == NULL)
         return WAIT_FAILED;
     note_call(seat);
@@ -215,7 +215,7 @@ DWORD WaitForMultipleObjects(DWORD count, const HANDLE *objects, BOOL all, DWORD
 /* A wait for one object. (In line, so that what is for APCs goes where none is asked for.) */
 __attribute__((always_inline)) static inline DWORD wait_for_object(HANDLE object, DWORD ms, BOOL alertable)
 {
-    struct seat *seat = begin();
+    struct seat *seat = ntw_begin();
     if (seat == NULL)
         return WAIT_FAILED;
     note_call(seat);
@@ -243,7 +243,7 @@ DWORD WaitForSingleObject(HANDLE object, DWORD ms)
 /* The same, but APCs that end the wait have yet to run: by `run_apcs`. */
 NTW_INTERNAL DWORD wait_before_apcs(HANDLE object, DWORD ms, BOOL alertable)
 {
-    struct seat *seat = begin();
+    struct seat *seat = ntw_begin();
     if (seat == NULL)
         return WAIT_FAILED;
     note_call(seat);
@@ -260,7 +260,7 @@ NTW_INTERNAL DWORD wait_before_apcs(HANDLE object, DWORD ms, BOOL alertable)
 
 DWORD SignalObjectAndWait(HANDLE signal, HANDLE object, DWORD ms, BOOL alertable)
 {
-    struct seat *seat = begin();
+    struct seat *seat = ntw_begin();
     if (seat == NULL)
         return WAIT_FAILED;
     note_call(seat);
@@ -268,7 +268,7 @@ DWORD SignalObjectAndWait(HANDLE signal, HANDLE object, DWORD ms, BOOL alertable
     begin_timed(seat, ms);
     const uint32_t refused = nt_swap(&waiting.dispatcher, seat->number, number_of(seat, signal), number, ms, alertable != FALSE, &seat->reply);
     if (refused == 0 && seat->reply.kind != NT_PENDED) {
-        note(seat);
+        ntw_note(seat);
         return finish_noted(seat, alertable);
     }
     return finish_wait(seat, refused, (struct wait){ &number, 1, alertable });
@@ -276,7 +276,7 @@ DWORD SignalObjectAndWait(HANDLE signal, HANDLE object, DWORD ms, BOOL alertable
 
 __attribute__((always_inline)) static inline DWORD sleep_for_ms(DWORD ms, BOOL alertable)
 {
-    struct seat *seat = begin();
+    struct seat *seat = ntw_begin();
     if (seat == NULL)
         return WAIT_FAILED;
     begin_timed(seat, ms);

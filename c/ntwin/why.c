@@ -51,7 +51,7 @@ static void write_object(struct report *to, uint32_t number, const struct nt_obj
     else if (named != NULL)
         write_wide_name(to, named->name);
     else if (handle != NO_HANDLE)
-        add(to, "h%u", handle);
+        ntw_add(to, "h%u", handle);
     else
         add_text(to, "without a name");
 }
@@ -60,7 +60,7 @@ static void write_object(struct report *to, uint32_t number, const struct nt_obj
 static void write_time_to(struct report *to, uint64_t moment)
 {
     const uint64_t now = present(), grain = MOMENTS_PER_SECOND / 1000;
-    add(to, "%llu ms", moment > now ? (unsigned long long)((moment - now + grain - 1) / grain) : 0);
+    ntw_add(to, "%llu ms", moment > now ? (unsigned long long)((moment - now + grain - 1) / grain) : 0);
 }
 
 static void write_state(struct report *to, const struct nt_object *object)
@@ -73,11 +73,11 @@ static void write_state(struct report *to, const struct nt_object *object)
         }
         add_text(to, "owned by ");
         write_thread(to, object->owner);
-        add(to, ", who owes %u release%s and %s", object->depth, object->depth == 1 ? "" : "s",
+        ntw_add(to, ", who owes %u release%s and %s", object->depth, object->depth == 1 ? "" : "s",
                 waiting.seats[object->owner].is_gone ? "was canceled" : known.waits[object->owner] ? "waits" : "runs");
         break;
     case NT_SEMAPHORE:
-        add(to, "its count is %d of %d", object->count, object->maximum);
+        ntw_add(to, "its count is %d of %d", object->count, object->maximum);
         break;
     case NT_TIMER:
         add_text(to, object->set ? "set" : "not set");
@@ -273,10 +273,10 @@ NTW_INTERNAL void write_all(struct report *to)
     look_at_threads();
     find_handles();
     make_stacks(to);
-    add(to, "ntwin: %u thread%s wait%s, %u run%s", known.waiting, known.waiting == 1 ? "" : "s", known.waiting == 1 ? "s" : "", known.running,
+    ntw_add(to, "ntwin: %u thread%s wait%s, %u run%s", known.waiting, known.waiting == 1 ? "" : "s", known.waiting == 1 ? "s" : "", known.running,
             known.running == 1 ? "s" : "");
     if (known.held > 1)
-        add(to, ", %u hold each other", known.held);
+        ntw_add(to, ", %u hold each other", known.held);
     add_letter(to, '\n');
     for (uint32_t i = 0; i < waiting.seated; i++) {
         write_pending(to, i);

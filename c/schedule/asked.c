@@ -151,10 +151,10 @@ static void read_asked(const char *asked)
     snprintf(text, sizeof text, "%s", asked);
     const char *word = strtok_r(text, ";", &rest);
     if (word == NULL || strlen(asked) >= sizeof text || !read_strategy(word))
-        refuse("ntwin: NTWIN_SCHEDULE=%.100s: " WHAT_CAN_STAND, asked);
+        ntw_refuse("ntwin: NTWIN_SCHEDULE=%.100s: " WHAT_CAN_STAND, asked);
     for (const char *option; (option = strtok_r(NULL, ";", &rest)) != NULL;)
         if (!read_option(option))
-            refuse("ntwin: NTWIN_SCHEDULE: %.100s: " WHAT_CAN_STAND, option);
+            ntw_refuse("ntwin: NTWIN_SCHEDULE: %.100s: " WHAT_CAN_STAND, option);
 }
 
 /* Memory of zeros, which takes room as it is used. */
@@ -162,7 +162,7 @@ NTW_INTERNAL void *reserve(size_t size, int how)
 {
     void *memory = mmap(NULL, size, PROT_READ | PROT_WRITE, how | MAP_ANONYMOUS | MAP_NORESERVE, -1, 0);
     if (memory == MAP_FAILED)
-        refuse("ntwin: NTWIN_SCHEDULE: out of memory");
+        ntw_refuse("ntwin: NTWIN_SCHEDULE: out of memory");
     return memory;
 }
 
@@ -219,7 +219,7 @@ static void open_turns(void)
 {
     schedule.turns_told = open_output(schedule.turns_file, O_APPEND);
     if (schedule.turns_told.number < 0)
-        refuse("ntwin: NTWIN_SCHEDULE: %s: %s", schedule.turns_file, strerror(errno));
+        ntw_refuse("ntwin: NTWIN_SCHEDULE: %s: %s", schedule.turns_file, strerror(errno));
 }
 
 /* Once this returns, the process is a run. */

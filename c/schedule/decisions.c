@@ -13,7 +13,7 @@ NTW_INTERNAL void say_unwritten(const char *path)
 {
     char line[768];
     snprintf(line, sizeof line, "ntwin: %s is not written: %s\n", path, strerror(errno));
-    say(line);
+    ntw_say(line);
 }
 
 NTW_INTERNAL void write_decisions(const char *path)
@@ -31,7 +31,7 @@ NTW_INTERNAL void write_decisions(const char *path)
 }
 
 /* What was asked for can't be done. */
-__attribute__((noreturn, format(printf, 1, 2))) NTW_INTERNAL void refuse(const char *format, ...)
+__attribute__((noreturn, format(printf, 1, 2))) NTW_INTERNAL void ntw_refuse(const char *format, ...)
 {
     char line[1200];
     va_list words;
@@ -39,7 +39,7 @@ __attribute__((noreturn, format(printf, 1, 2))) NTW_INTERNAL void refuse(const c
     const int length = vsnprintf(line, sizeof line - 1, format, words);
     va_end(words);
     snprintf(line + (length < (int)sizeof line - 2 ? length : (int)sizeof line - 2), 2, "\n");
-    say(line);
+    ntw_say(line);
     _exit(WRONG_WORDS);
 }
 
@@ -74,10 +74,10 @@ static void take_decision(const char *path, uint32_t number, const char *line)
 {
     struct shared_run *shared = schedule.shared;
     if (shared->wanted_count == MOST_DECISIONS)
-        refuse("ntwin: NTWIN_SCHEDULE: %s:%u: more than %d decisions", path, number, MOST_DECISIONS);
+        ntw_refuse("ntwin: NTWIN_SCHEDULE: %s:%u: more than %d decisions", path, number, MOST_DECISIONS);
     if (!read_decision(line, &shared->wanted[shared->wanted_count++]))
-        refuse("ntwin: NTWIN_SCHEDULE: %s:%u: no decision: 't1 12 t2' (at its point 12, t1 has t2 go on) or 't1 12 clock' can stand there", path,
-               number);
+        ntw_refuse("ntwin: NTWIN_SCHEDULE: %s:%u: no decision: 't1 12 t2' (at its point 12, t1 has t2 go on) or 't1 12 clock' can stand there", path,
+                   number);
 }
 
 NTW_INTERNAL void read_decisions(const char *path)
@@ -85,16 +85,16 @@ NTW_INTERNAL void read_decisions(const char *path)
     char line[LONGEST_LINE_READ] = "";
     FILE *file = fopen(path, "re");
     if (file == NULL)
-        refuse("ntwin: NTWIN_SCHEDULE: %s: %s", path, strerror(errno));
+        ntw_refuse("ntwin: NTWIN_SCHEDULE: %s: %s", path, strerror(errno));
     const bool has_line = read_decisions_line(file, line);
     if (!ferror(file) && (!has_line || strncmp(line, first_line, sizeof first_line - 1) != 0))
-        refuse("ntwin: NTWIN_SCHEDULE: %s: no file of decisions: its first line is '%s', as ntwin-explore writes it", path, first_line);
+        ntw_refuse("ntwin: NTWIN_SCHEDULE: %s: no file of decisions: its first line is '%s', as ntwin-explore writes it", path, first_line);
     schedule.is_free |= strstr(line, free_time) != NULL;
     schedule.is_still |= strstr(line, still_time) != NULL;
     for (uint32_t number = 2; read_decisions_line(file, line); number++)
         if (line[0] != ';' && line[0] != 0)
             take_decision(path, number, line);
     if (ferror(file))
-        refuse("ntwin: NTWIN_SCHEDULE: %s: %s", path, strerror(errno));
+        ntw_refuse("ntwin: NTWIN_SCHEDULE: %s: %s", path, strerror(errno));
     fclose(file);
 }

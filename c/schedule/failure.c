@@ -123,7 +123,7 @@ __attribute__((noreturn)) NTW_INTERNAL void tell_failure(const char *name, uint6
     end_progress();
     kept = malloc(sizeof schedule.shared->made);
     if (kept == NULL)
-        refuse("ntwin: NTWIN_SCHEDULE: out of memory");
+        ntw_refuse("ntwin: NTWIN_SCHEDULE: out of memory");
     schedule.strategy = BY_FILE;
     notes_touches = false;
     const uint32_t tries = failure.verdict != CANT_BE_EXPLORED ? shorten(&failure) : 0;

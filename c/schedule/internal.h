@@ -209,7 +209,7 @@ __attribute__((noreturn)) NTW_INTERNAL void leave_run_off(void);
 NTW_INTERNAL void list_wanted(void);
 NTW_INTERNAL void put_decision(char text[48], const struct decision *it);
 NTW_INTERNAL void look_whether_all_fitted(void);
-NTW_INTERNAL uint32_t decide(enum point point, uint32_t usual, const struct stand *stand);
+NTW_INTERNAL uint32_t ntw_decide(enum point point, uint32_t usual, const struct stand *stand);
 
 /* ---- points.c */
 
@@ -271,7 +271,7 @@ NTW_INTERNAL void stand_in_for_all(void);
 
 NTW_INTERNAL void say_unwritten(const char *path);
 NTW_INTERNAL void write_decisions(const char *path);
-__attribute__((noreturn, format(printf, 1, 2))) NTW_INTERNAL void refuse(const char *format, ...);
+__attribute__((noreturn, format(printf, 1, 2))) NTW_INTERNAL void ntw_refuse(const char *format, ...);
 NTW_INTERNAL void read_decisions(const char *path);
 
 /* ---- runs.c */

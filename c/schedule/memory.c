@@ -116,9 +116,9 @@ struct race {
 static void write_race(struct report *to, const char *at)
 {
     const struct race *it = (const void *)at;
-    add(to, "ntwin: t%u %s memory at %p", me->number, (it->how & WRITES) != 0 ? "writes" : "reads", (const void *)it->at);
+    ntw_add(to, "ntwin: t%u %s memory at %p", me->number, (it->how & WRITES) != 0 ? "writes" : "reads", (const void *)it->at);
     write_place_in(to, it->place);
-    add(to, "\n  t%u %s it", it->first->thread, it->did);
+    ntw_add(to, "\n  t%u %s it", it->first->thread, it->did);
     write_place_in(to, it->first->place);
     add_text(to, ", and no call orders the two\n");
 }

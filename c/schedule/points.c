@@ -10,7 +10,7 @@ NTW_INTERNAL int find_module(struct dl_phdr_info *info, size_t size, void *at)
 {
     struct module *module = at;
     (void)size;
-    if (!is_in(info, module->place))
+    if (!ntw_is_in(info, module->place))
         return 0;
     module->offset = module->place - info->dlpi_addr;
     module->name = info->dlpi_name[0] != 0 ? info->dlpi_name : program_invocation_name;
@@ -80,7 +80,7 @@ static struct scheduled *choose(enum point point)
         const bool is_last = point == AT_END && schedule.alive == 0;
         if (usual == NO_ONE && !is_last && (awaits_arrival(point == AT_END) || awaits_outside()))
             continue;
-        const uint32_t chosen = decide(point, usual, &stand);
+        const uint32_t chosen = ntw_decide(point, usual, &stand);
         if (schedule.trace.number >= 0 && schedule.shared->steps >= schedule.trace_from)
             write_step(point, chosen);
         if (chosen == THE_CLOCK)

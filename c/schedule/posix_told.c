@@ -30,21 +30,21 @@ NTW_INTERNAL void write_place_in(struct report *to, const void *place)
 {
     struct module module = { .place = (uintptr_t)place - 1 };
     if (place != NULL && dl_iterate_phdr(find_module, &module) != 0)
-        add(to, ", in %s+0x%zx", module.name, (size_t)module.offset);
+        ntw_add(to, ", in %s+0x%zx", module.name, (size_t)module.offset);
 }
 
 static void write_blocked(struct report *to, const struct scheduled *it)
 {
     const struct scheduled *holder = holder_of(it);
-    add(to, "  t%u waits in %s", it->number, it->blocked->call);
+    ntw_add(to, "  t%u waits in %s", it->number, it->blocked->call);
     if (waits_in(it, "pthread_join"))
-        add(to, " for t%u", holder->number);
+        ntw_add(to, " for t%u", holder->number);
     else if (it->blocked->object != NULL && it->blocked->has_come != has_input)
-        add(to, " for %p", it->blocked->object);
+        ntw_add(to, " for %p", it->blocked->object);
     else if (it->blocked->has_come == has_input)
         add_text(to, " for input");
     if (holder != NULL && !waits_in(it, "pthread_join"))
-        add(to, ", which t%u has", holder->number);
+        ntw_add(to, ", which t%u has", holder->number);
     write_place_in(to, it->blocked->place);
     add_letter(to, '\n');
 }
@@ -60,9 +60,9 @@ static void write_posix_knots(struct report *to)
             is_least &= it->number > first->number;
         if (it != first || !is_least)
             continue;
-        add(to, "  KNOT: t%u", first->number);
+        ntw_add(to, "  KNOT: t%u", first->number);
         for (it = holder_of(first); it != first; it = holder_of(it))
-            add(to, " t%u", it->number);
+            ntw_add(to, " t%u", it->number);
         add_text(to, ": none of them ever goes on, whatever the others do\n");
     }
 }
@@ -75,7 +75,7 @@ static void write_blocked_threads(struct report *to, const char *none)
         count += schedule.threads[i]->state == IS_SLEEPING && schedule.threads[i]->blocked != NULL;
     if (count == 0)
         return;
-    add(to, "ntwin: %u thread%s in calls of POSIX\n", count, count == 1 ? " waits" : "s wait");
+    ntw_add(to, "ntwin: %u thread%s in calls of POSIX\n", count, count == 1 ? " waits" : "s wait");
     for (uint32_t i = 0; i < schedule.threads_count; i++)
         if (schedule.threads[i]->state == IS_SLEEPING && schedule.threads[i]->blocked != NULL)
             write_blocked(to, schedule.threads[i]);

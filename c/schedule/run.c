@@ -49,8 +49,8 @@ NTW_INTERNAL void say_of_run(uint32_t verdict)
     char line[160];
     snprintf(line, sizeof line, "ntwin: the schedule %s, after %llu steps, with %u decision%s\n", words_of(verdict),
              (unsigned long long)schedule.shared->steps, schedule.shared->made_count, schedule.shared->made_count == 1 ? "" : "s");
-    say(line);
-    say(schedule.shared->text);
+    ntw_say(line);
+    ntw_say(schedule.shared->text);
 }
 
 /* The run ends here, with the process. */

@@ -172,7 +172,7 @@ NTW_INTERNAL uint32_t make_run(bool is_last)
     if (child == 0)
         begin_child(is_last);
     if (child < 0)
-        refuse("ntwin: NTWIN_SCHEDULE: no process for a run: %s", strerror(errno));
+        ntw_refuse("ntwin: NTWIN_SCHEDULE: no process for a run: %s", strerror(errno));
     maker.status = await_child(child);
     if (shared->verdict == ENDED_WELL && maker.status != 0)
         shared->verdict = ENDS_BADLY;
@@ -187,7 +187,7 @@ NTW_INTERNAL void begin_making(void)
     maker.id = getpid();
     maker.output = beyond_streams(memfd_create("output", MFD_CLOEXEC));
     if (maker.output < 0)
-        refuse("ntwin: NTWIN_SCHEDULE: no file for what runs write: %s", strerror(errno));
+        ntw_refuse("ntwin: NTWIN_SCHEDULE: no file for what runs write: %s", strerror(errno));
     sigaction(SIGCHLD, &usual, &maker.at_child);
     sigemptyset(&ends);
     sigaddset(&ends, SIGCHLD);

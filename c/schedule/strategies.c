@@ -116,7 +116,7 @@ NTW_INTERNAL void look_whether_all_fitted(void)
 /* ---- All of them. */
 
 /* Answers who goes on, and writes down what was decided. (A file may say something of a point at which there is no choice: it does not fit then.) */
-NTW_INTERNAL uint32_t decide(enum point point, uint32_t usual, const struct stand *stand)
+NTW_INTERNAL uint32_t ntw_decide(enum point point, uint32_t usual, const struct stand *stand)
 {
     const bool may_jump = schedule.is_free && stand->deadline != NEVER && usual != NO_ONE && usual != THE_CLOCK;
     if (schedule.strategy != BY_FILE && stand->ready + may_jump < 2) {

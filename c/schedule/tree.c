@@ -236,7 +236,7 @@ static int open_ends(void)
 {
     const int ends = schedule.ends[0] != 0 ? beyond_streams(open(schedule.ends, O_WRONLY | O_CREAT | O_TRUNC | O_CLOEXEC, 0666)) : -1;
     if (schedule.ends[0] != 0 && ends < 0)
-        refuse("ntwin: NTWIN_SCHEDULE: %s: %s", schedule.ends, strerror(errno));
+        ntw_refuse("ntwin: NTWIN_SCHEDULE: %s: %s", schedule.ends, strerror(errno));
     return ends;
 }
 

@@ -79,7 +79,7 @@ static void take_otherwise(struct taker *me)
 static void *live(void *seed)
 {
     struct taker me = { .chance = (uintptr_t)seed };
-    struct seat *seat = join();
+    struct seat *seat = ntw_join();
     must(seat != NULL && seat->number <= THREADS && !lock_is(FAVOURS + seat->number) && inside_of(seat) == 0);
     LATER += atomic_exchange(&HAD[seat->number], true);
     for (int round = 0; round < ROUNDS; round++) {
@@ -120,7 +120,7 @@ static void *read_words(void *none)
 static bool is_favoured_alone(void)
 {
     struct taker me = { .chance = 0 };
-    struct seat *seat = join();
+    struct seat *seat = ntw_join();
     must(seat != NULL);
 #ifdef TELLS_WHETHER_ALONE
     must(is_alone());

@@ -8,7 +8,7 @@
 /* The caller takes the lock, and gives it back, until that favours it. */
 static struct seat *become_favoured(void)
 {
-    struct seat *seat = join();
+    struct seat *seat = ntw_join();
     must(seat != NULL);
     for (int i = 0; i <= 2 * MOST_PATIENCE; i++) {
         must(take_lock_for(seat));

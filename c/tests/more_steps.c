@@ -259,7 +259,7 @@ static void seven_has_ended(void)
 static void another_ends_there(void)
 {
     struct past *past = calloc(1, sizeof *past);
-    must(join() != NULL && past != NULL);
+    must(ntw_join() != NULL && past != NULL);
     take_lock();
     must(set_aside(place, past));
     renew_seats();
@@ -318,7 +318,7 @@ static void end_to_be_waited_for(void)
 
 static void come_in_first(void)
 {
-    must(join() != NULL);
+    must(ntw_join() != NULL);
 }
 
 static void exit_codes(void)

@@ -10,7 +10,7 @@ BOOL InitializeSynchronizationBarrier(LPSYNCHRONIZATION_BARRIER barrier, LONG th
 {
     struct barrier *it = (struct barrier *)(void *)barrier;
     if (threads <= 0 || spins < -1)
-        return fail(ERROR_INVALID_PARAMETER);
+        return ntw_fail(ERROR_INVALID_PARAMETER);
     *it = (struct barrier){ .threads = (uint32_t)threads, .looks = spins == -1 ? USUAL_BARRIER_LOOKS : (uint32_t)spins };
     return TRUE;
 }

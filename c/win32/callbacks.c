@@ -395,5 +395,5 @@ NTW_INTERNAL BOOL end_task(struct task *task, HANDLE event)
         let_go_of_task(task);
         return TRUE;
     }
-    return close_task(task, event) || fail(ERROR_IO_PENDING);
+    return close_task(task, event) || ntw_fail(ERROR_IO_PENDING);
 }

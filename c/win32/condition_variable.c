@@ -31,21 +31,21 @@ BOOL SleepConditionVariableCS(PCONDITION_VARIABLE variable, PCRITICAL_SECTION se
     LeaveCriticalSection(section);
     const bool was_woken = sleep_parked(parking, moment);
     EnterCriticalSection(section);
-    return was_woken || fail(ERROR_TIMEOUT);
+    return was_woken || ntw_fail(ERROR_TIMEOUT);
 }
 
 BOOL SleepConditionVariableSRW(PCONDITION_VARIABLE variable, PSRWLOCK lock, DWORD ms, ULONG flags)
 {
     const bool is_shared = (flags & CONDITION_VARIABLE_LOCKMODE_SHARED) != 0;
     if ((flags & ~CONDITION_VARIABLE_LOCKMODE_SHARED) != 0)
-        return fail(ERROR_INVALID_PARAMETER);
+        return ntw_fail(ERROR_INVALID_PARAMETER);
     may_switch_at(variable);
     const uint64_t moment = moment_after(ms);
     struct parking *parking = begin_to_sleep(variable);
     (is_shared ? ReleaseSRWLockShared : ReleaseSRWLockExclusive)(lock);
     const bool was_woken = sleep_parked(parking, moment);
     (is_shared ? AcquireSRWLockShared : AcquireSRWLockExclusive)(lock);
-    return was_woken || fail(ERROR_TIMEOUT);
+    return was_woken || ntw_fail(ERROR_TIMEOUT);
 }
 
 /* (Who sleeps there was counted before it let the lock go, which the caller has had since.) */

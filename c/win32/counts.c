@@ -8,5 +8,5 @@ BOOL ntwin_release_semaphore(HANDLE semaphore, LONGLONG count, LPLONG previous)
         return ReleaseSemaphore(semaphore, count < 0 ? -1 : (LONG)count, previous);
     /* (By none it is refused in any case: for the handle first, as any other count.) */
     ReleaseSemaphore(semaphore, 0, NULL);
-    return own.last_error == ERROR_INVALID_PARAMETER ? fail(ERROR_TOO_MANY_POSTS) : FALSE;
+    return own.last_error == ERROR_INVALID_PARAMETER ? ntw_fail(ERROR_TOO_MANY_POSTS) : FALSE;
 }

@@ -36,7 +36,7 @@ BOOL InitializeCriticalSectionEx(LPCRITICAL_SECTION section, DWORD spins, DWORD 
     const DWORD known = RTL_CRITICAL_SECTION_FLAG_NO_DEBUG_INFO | RTL_CRITICAL_SECTION_FLAG_DYNAMIC_SPIN
         | RTL_CRITICAL_SECTION_FLAG_STATIC_INIT | RTL_CRITICAL_SECTION_FLAG_FORCE_DEBUG_INFO;
     if ((flags & ~known) != 0 || (spins & ~SECTION_SPINS) != 0)
-        return fail(ERROR_INVALID_PARAMETER);
+        return ntw_fail(ERROR_INVALID_PARAMETER);
     open_section(section, spins);
     return TRUE;
 }

@@ -138,13 +138,13 @@ LPVOID CreateFiberEx(SIZE_T commit, SIZE_T reserve, DWORD flags, LPFIBER_START_R
 {
     const size_t least = reserve != 0 ? reserve : USUAL_STACK, size = commit > least ? commit : least;
     if (start == NULL || (flags & ~FIBER_FLAG_FLOAT_SWITCH) != 0) {
-        fail(ERROR_INVALID_PARAMETER);
+        ntw_fail(ERROR_INVALID_PARAMETER);
         return NULL;
     }
     struct fiber *fiber = size < SIZE_MAX / 2 ? calloc(1, sizeof *fiber) : NULL;
     if (fiber == NULL || getcontext(&fiber->context) != 0 || !make_stack(fiber, size)) {
         free(fiber);
-        fail(ERROR_NOT_ENOUGH_MEMORY);
+        ntw_fail(ERROR_NOT_ENOUGH_MEMORY);
         return NULL;
     }
     fiber->data = data;
@@ -193,13 +193,13 @@ LPVOID ConvertThreadToFiberEx(LPVOID data, DWORD flags)
 {
     ULONG_PTR low, high;
     if (fibers.current != NULL || (flags & ~FIBER_FLAG_FLOAT_SWITCH) != 0) {
-        fail(fibers.current != NULL ? ERROR_ALREADY_FIBER : ERROR_INVALID_PARAMETER);
+        ntw_fail(fibers.current != NULL ? ERROR_ALREADY_FIBER : ERROR_INVALID_PARAMETER);
         return NULL;
     }
     struct storage *mine = storage != NULL ? storage : make_storage();
     struct fiber *fiber = mine != NULL ? calloc(1, sizeof *fiber) : NULL;
     if (fiber == NULL) {
-        fail(ERROR_NOT_ENOUGH_MEMORY);
+        ntw_fail(ERROR_NOT_ENOUGH_MEMORY);
         return NULL;
     }
     GetCurrentThreadStackLimits(&low, &high);
@@ -225,7 +225,7 @@ BOOL ConvertFiberToThread(void)
 {
     struct fiber *here = fibers.current;
     if (here == NULL || here != fibers.first)
-        return fail(here == NULL ? ERROR_ALREADY_THREAD : ERROR_NOT_SUPPORTED);
+        return ntw_fail(here == NULL ? ERROR_ALREADY_THREAD : ERROR_NOT_SUPPORTED);
     move_values(&here->storage, storage);
     fibers.current = fibers.first = NULL;
     storage_of_fiber = NULL;

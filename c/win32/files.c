@@ -7,20 +7,20 @@ BOOL SetFileCompletionNotificationModes(HANDLE file, UCHAR flags)
 {
     (void)file;
     if ((flags & ~(FILE_SKIP_COMPLETION_PORT_ON_SUCCESS | FILE_SKIP_SET_EVENT_ON_HANDLE)) != 0)
-        return fail(ERROR_INVALID_PARAMETER);
-    return fail(ERROR_INVALID_HANDLE);
+        return ntw_fail(ERROR_INVALID_PARAMETER);
+    return ntw_fail(ERROR_INVALID_HANDLE);
 }
 
 BOOL BindIoCompletionCallback(HANDLE file, LPOVERLAPPED_COMPLETION_ROUTINE routine, ULONG flags)
 {
     (void)file;
-    return fail(routine == NULL || flags != 0 ? ERROR_INVALID_PARAMETER : ERROR_INVALID_HANDLE);
+    return ntw_fail(routine == NULL || flags != 0 ? ERROR_INVALID_PARAMETER : ERROR_INVALID_HANDLE);
 }
 
 BOOL CancelIo(HANDLE file)
 {
     (void)file;
-    return fail(ERROR_INVALID_HANDLE);
+    return ntw_fail(ERROR_INVALID_HANDLE);
 }
 
 BOOL CancelIoEx(HANDLE file, LPOVERLAPPED overlapped)
@@ -41,13 +41,13 @@ BOOL GetOverlappedResult(HANDLE file, LPOVERLAPPED overlapped, LPDWORD bytes, BO
     HANDLE event = (HANDLE)((ULONG_PTR)overlapped->hEvent & ~(ULONG_PTR)1);
     if (state_of_operation(overlapped) == STATUS_PENDING) {
         if (!waits)
-            return fail(ERROR_IO_INCOMPLETE);
+            return ntw_fail(ERROR_IO_INCOMPLETE);
         if (WaitForSingleObject(event != NULL ? event : file, INFINITE) == WAIT_FAILED)
             return FALSE;
     }
     const NTSTATUS status = state_of_operation(overlapped);
     if (status == STATUS_PENDING)
-        return fail(ERROR_IO_INCOMPLETE);
+        return ntw_fail(ERROR_IO_INCOMPLETE);
     *bytes = (DWORD)overlapped->InternalHigh;
-    return NT_SUCCESS(status) || fail(RtlNtStatusToDosError(status));
+    return NT_SUCCESS(status) || ntw_fail(RtlNtStatusToDosError(status));
 }

@@ -19,7 +19,7 @@ static void forget_other_sleepers(DWORD caller)
             mine = at;
     for (struct sleeper *at = sleepers.first; at != NULL; at = at->later)
         if (at->lock != NULL && (mine == NULL || at->lock != mine->lock))
-            forget_waiters(srw_of(at->lock));
+            forget_waiters(ntw_srw_of(at->lock));
     if (mine != NULL)
         mine->earlier = mine->later = NULL;
     sleepers.first = mine;

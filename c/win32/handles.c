@@ -16,7 +16,7 @@ static uint32_t look_at_handle(HANDLE handle, uint32_t *number)
 BOOL GetHandleInformation(HANDLE handle, LPDWORD flags)
 {
     uint32_t number;
-    struct seat *seat = begin();
+    struct seat *seat = ntw_begin();
     if (seat == NULL)
         return FALSE;
     const uint32_t refused = look_at_handle(handle, &number);
@@ -32,8 +32,8 @@ BOOL SetHandleInformation(HANDLE handle, DWORD mask, DWORD flags)
     const bool protects = (mask & flags & HANDLE_FLAG_PROTECT_FROM_CLOSE) != 0;
     uint32_t number;
     if ((mask & ~(HANDLE_FLAG_INHERIT | HANDLE_FLAG_PROTECT_FROM_CLOSE)) != 0)
-        return fail(ERROR_INVALID_PARAMETER);
-    struct seat *seat = begin();
+        return ntw_fail(ERROR_INVALID_PARAMETER);
+    struct seat *seat = ntw_begin();
     if (seat == NULL)
         return FALSE;
     uint32_t refused = look_at_handle(handle, &number);

@@ -57,7 +57,7 @@ BOOL HeapFree(HANDLE heap, DWORD flags, LPVOID memory)
 {
     (void)flags;
     if (!is_heap(heap))
-        return fail(ERROR_INVALID_HANDLE);
+        return ntw_fail(ERROR_INVALID_HANDLE);
     if (memory != NULL)
         free(piece_of(memory));
     return TRUE;
@@ -72,12 +72,12 @@ SIZE_T HeapSize(HANDLE heap, DWORD flags, LPCVOID memory)
 HLOCAL LocalAlloc(UINT flags, SIZE_T size)
 {
     if ((flags & ~LPTR) != 0) {
-        fail(ERROR_INVALID_PARAMETER);
+        ntw_fail(ERROR_INVALID_PARAMETER);
         return NULL;
     }
     void *memory = (flags & LMEM_ZEROINIT) != 0 ? calloc(1, size > 0 ? size : 1) : malloc(size > 0 ? size : 1);
     if (memory == NULL)
-        fail(ERROR_NOT_ENOUGH_MEMORY);
+        ntw_fail(ERROR_NOT_ENOUGH_MEMORY);
     return memory;
 }
 

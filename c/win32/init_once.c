@@ -35,7 +35,7 @@ BOOL InitOnceBeginInitialize(LPINIT_ONCE once, DWORD flags, PBOOL pending, LPVOI
 {
     const bool is_async = (flags & INIT_ONCE_ASYNC) != 0, only_checks = (flags & INIT_ONCE_CHECK_ONLY) != 0;
     if ((flags & ~(INIT_ONCE_ASYNC | INIT_ONCE_CHECK_ONLY)) != 0 || (is_async && only_checks))
-        return fail(ERROR_INVALID_PARAMETER);
+        return ntw_fail(ERROR_INVALID_PARAMETER);
     may_switch_at_seen(once);
     for (;;) {
         uintptr_t value = once_of(once);
@@ -45,9 +45,9 @@ BOOL InitOnceBeginInitialize(LPINIT_ONCE once, DWORD flags, PBOOL pending, LPVOI
             return finish_once(once, value, context);
         }
         if (only_checks)
-            return fail(ERROR_GEN_FAILURE);
+            return ntw_fail(ERROR_GEN_FAILURE);
         if (stand != ONCE_BEFORE && is_async != (stand == ONCE_BEGUN_BY_MANY))
-            return fail(ERROR_INVALID_PARAMETER);
+            return ntw_fail(ERROR_INVALID_PARAMETER);
         if (stand == ONCE_BEGUN) {
             wait_on(&once->Ptr, &value, sizeof value, INFINITE, FOR_ONCE);
         } else if (stand == ONCE_BEGUN_BY_MANY || change_once(once, value, is_async ? ONCE_BEGUN_BY_MANY : ONCE_BEGUN)) {
@@ -64,11 +64,11 @@ BOOL InitOnceComplete(LPINIT_ONCE once, DWORD flags, LPVOID context)
     const uintptr_t before = once_of(once);
     if ((flags & ~(INIT_ONCE_ASYNC | INIT_ONCE_INIT_FAILED)) != 0 || ((uintptr_t)context & ONCE_BITS) != 0
         || (has_failed && (is_async || context != NULL)))
-        return fail(ERROR_INVALID_PARAMETER);
+        return ntw_fail(ERROR_INVALID_PARAMETER);
     if ((before & ONCE_BITS) == ONCE_BEGUN_BY_MANY && !is_async)
-        return fail(ERROR_INVALID_PARAMETER);
+        return ntw_fail(ERROR_INVALID_PARAMETER);
     if ((before != ONCE_BEGUN && before != ONCE_BEGUN_BY_MANY) || !change_once(once, before, after))
-        return fail(ERROR_GEN_FAILURE);
+        return ntw_fail(ERROR_GEN_FAILURE);
     WakeByAddressAll(&once->Ptr);
     return TRUE;
 }
@@ -79,7 +79,7 @@ static BOOL complete_made(PINIT_ONCE once, LPVOID made)
     if (((uintptr_t)made & ONCE_BITS) == 0)
         return InitOnceComplete(once, 0, made);
     InitOnceComplete(once, INIT_ONCE_INIT_FAILED, NULL);
-    return fail(ERROR_INVALID_PARAMETER);
+    return ntw_fail(ERROR_INVALID_PARAMETER);
 }
 
 BOOL InitOnceExecuteOnce(PINIT_ONCE once, PINIT_ONCE_FN initialize, PVOID parameter, LPVOID *context)

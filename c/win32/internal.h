@@ -112,7 +112,7 @@ struct srw {
     uint32_t unused;
 };
 
-NTW_INTERNAL struct srw *srw_of(PSRWLOCK lock);
+NTW_INTERNAL struct srw *ntw_srw_of(PSRWLOCK lock);
 NTW_INTERNAL uint32_t state_of(struct srw *srw);
 
 /* ---- parking.c */

@@ -62,18 +62,18 @@ static const char *text_asked(DWORD flags, LPCVOID source, DWORD error)
         | FORMAT_MESSAGE_FROM_SYSTEM | FORMAT_MESSAGE_ARGUMENT_ARRAY | FORMAT_MESSAGE_MAX_WIDTH_MASK;
     const char *text = NULL;
     if ((flags & ~known) != 0 || (flags & (FORMAT_MESSAGE_FROM_STRING | FORMAT_MESSAGE_FROM_SYSTEM)) == 0) {
-        fail(ERROR_INVALID_PARAMETER);
+        ntw_fail(ERROR_INVALID_PARAMETER);
         return NULL;
     }
     if ((flags & FORMAT_MESSAGE_FROM_STRING) != 0) {
         if (source == NULL || (flags & FORMAT_MESSAGE_IGNORE_INSERTS) == 0)
-            fail(source == NULL ? ERROR_INVALID_PARAMETER : ERROR_NOT_SUPPORTED);
+            ntw_fail(source == NULL ? ERROR_INVALID_PARAMETER : ERROR_NOT_SUPPORTED);
         else
             text = source;
     } else {
         text = text_of(error);
         if (text == NULL)
-            fail(ERROR_MR_MID_NOT_FOUND);
+            ntw_fail(ERROR_MR_MID_NOT_FOUND);
     }
     return text;
 }
@@ -108,7 +108,7 @@ static char *make_message(DWORD flags, const char *text)
 {
     char *made = malloc(strlen(text) + 3);
     if (made == NULL)
-        fail(ERROR_NOT_ENOUGH_MEMORY);
+        ntw_fail(ERROR_NOT_ENOUGH_MEMORY);
     else if ((flags & FORMAT_MESSAGE_FROM_STRING) != 0)
         write_own_text(made, text);
     else
@@ -123,13 +123,13 @@ static void *place_of_message(DWORD flags, void *buffer, DWORD size, DWORD room,
     void *made = buffer;
     if ((flags & FORMAT_MESSAGE_ALLOCATE_BUFFER) == 0) {
         if (size < room)
-            fail(ERROR_INSUFFICIENT_BUFFER);
+            ntw_fail(ERROR_INSUFFICIENT_BUFFER);
         return size < room ? NULL : buffer;
     }
     made = malloc((size > room ? size : room) * bytes);
     memcpy(buffer, &made, sizeof made);
     if (made == NULL)
-        fail(ERROR_NOT_ENOUGH_MEMORY);
+        ntw_fail(ERROR_NOT_ENOUGH_MEMORY);
     return made;
 }
 
@@ -139,7 +139,7 @@ static char *message_asked(DWORD flags, LPCVOID source, DWORD error, void *buffe
 {
     if ((flags & FORMAT_MESSAGE_ALLOCATE_BUFFER) != 0) {
         if (buffer == NULL) {
-            fail(ERROR_NOT_ENOUGH_MEMORY);
+            ntw_fail(ERROR_NOT_ENOUGH_MEMORY);
             return NULL;
         }
         memcpy(buffer, &(void *){ NULL }, sizeof(void *));
@@ -168,7 +168,7 @@ NTW_INTERNAL DWORD format_message(DWORD flags, DWORD error, void *buffer, DWORD 
 {
     char *message = (flags & FORMAT_MESSAGE_FROM_STRING) == 0 ? message_asked(flags, NULL, error, buffer) : NULL;
     if (message == NULL)
-        return (flags & FORMAT_MESSAGE_FROM_STRING) != 0 ? (DWORD)fail(ERROR_NOT_SUPPORTED) : 0;
+        return (flags & FORMAT_MESSAGE_FROM_STRING) != 0 ? (DWORD)ntw_fail(ERROR_NOT_SUPPORTED) : 0;
     const DWORD length = (DWORD)strlen(message);
     void *made = place_of_message(flags, buffer, size, length + 1, bytes);
     /* (The system's texts are in ASCII.) */

@@ -70,7 +70,7 @@ static bool is_loaded(HMODULE module)
 static HMODULE module_of(const char *name, void *library)
 {
     if (library == NULL)
-        fail(name != NULL && strchr(name, '/') != NULL && access(name, F_OK) == 0 ? ERROR_BAD_EXE_FORMAT : ERROR_MOD_NOT_FOUND);
+        ntw_fail(name != NULL && strchr(name, '/') != NULL && access(name, F_OK) == 0 ? ERROR_BAD_EXE_FORMAT : ERROR_MOD_NOT_FOUND);
     return library;
 }
 
@@ -98,7 +98,7 @@ static char *narrow_name(LPCWSTR name, char narrow[PATH_MAX])
 {
     if (WideCharToMultiByte(CP_UTF8, 0, name, -1, narrow, PATH_MAX, NULL, NULL) > 0)
         return narrow;
-    fail(ERROR_FILENAME_EXCED_RANGE);
+    ntw_fail(ERROR_FILENAME_EXCED_RANGE);
     return NULL;
 }
 
@@ -110,7 +110,7 @@ HMODULE LoadLibraryExA(LPCSTR name, HANDLE file, DWORD flags)
         | LOAD_LIBRARY_SEARCH_DLL_LOAD_DIR | LOAD_LIBRARY_SEARCH_APPLICATION_DIR | LOAD_LIBRARY_SEARCH_USER_DIRS
         | LOAD_LIBRARY_SEARCH_SYSTEM32 | LOAD_LIBRARY_SEARCH_DEFAULT_DIRS;
     if (name == NULL || file != NULL || (flags & ~(only_data | where)) != 0 || (flags & only_data) != 0) {
-        fail((flags & only_data) != 0 ? ERROR_NOT_SUPPORTED : ERROR_INVALID_PARAMETER);
+        ntw_fail((flags & only_data) != 0 ? ERROR_NOT_SUPPORTED : ERROR_INVALID_PARAMETER);
         return NULL;
     }
     if (is_here(name))
@@ -139,11 +139,11 @@ HMODULE LoadLibraryW(LPCWSTR name)
 BOOL FreeLibrary(HMODULE module)
 {
     if (module == NULL)
-        return fail(ERROR_INVALID_HANDLE);
+        return ntw_fail(ERROR_INVALID_HANDLE);
     if (module == MODULE_HERE)
         return TRUE;
     if (!is_loaded(module))
-        return fail(ERROR_MOD_NOT_FOUND);
+        return ntw_fail(ERROR_MOD_NOT_FOUND);
     /* (It refuses a library that no call has loaded, and that stays.) */
     dlclose(module);
     return TRUE;
@@ -159,11 +159,11 @@ BOOL GetModuleHandleExA(DWORD flags, LPCSTR name, HMODULE *module)
 {
     const DWORD stays = flags & (GET_MODULE_HANDLE_EX_FLAG_PIN | GET_MODULE_HANDLE_EX_FLAG_UNCHANGED_REFCOUNT);
     if (module == NULL)
-        return fail(ERROR_INVALID_PARAMETER);
+        return ntw_fail(ERROR_INVALID_PARAMETER);
     *module = NULL;
     if ((flags & ~(stays | GET_MODULE_HANDLE_EX_FLAG_FROM_ADDRESS)) != 0
         || stays == (GET_MODULE_HANDLE_EX_FLAG_PIN | GET_MODULE_HANDLE_EX_FLAG_UNCHANGED_REFCOUNT))
-        return fail(ERROR_INVALID_PARAMETER);
+        return ntw_fail(ERROR_INVALID_PARAMETER);
     const int how = stays == GET_MODULE_HANDLE_EX_FLAG_PIN ? RTLD_NODELETE : 0;
     *module = name != NULL && (flags & GET_MODULE_HANDLE_EX_FLAG_FROM_ADDRESS) != 0 ? module_at(name, how) : module_named(name, how);
     if (stays == GET_MODULE_HANDLE_EX_FLAG_UNCHANGED_REFCOUNT && *module != NULL)
@@ -195,14 +195,14 @@ FARPROC GetProcAddress(HMODULE module, LPCSTR name)
 {
     const bool is_number = (uintptr_t)name <= 0xFFFF;
     if (module != MODULE_HERE && !is_loaded(module)) {
-        fail(ERROR_MOD_NOT_FOUND);
+        ntw_fail(ERROR_MOD_NOT_FOUND);
         return NULL;
     }
     FARPROC found = NULL;
     if (!is_number)
         found = module == MODULE_HERE ? call_by_name(name) : (FARPROC)(uintptr_t)dlsym(module, name);
     if (found == NULL)
-        fail(is_number ? ERROR_INVALID_ORDINAL : ERROR_PROC_NOT_FOUND);
+        ntw_fail(is_number ? ERROR_INVALID_ORDINAL : ERROR_PROC_NOT_FOUND);
     return found;
 }
 
@@ -214,9 +214,9 @@ NTW_INTERNAL bool read_path(HMODULE module, char path[PATH_MAX])
     if (module == MODULE_HERE && dladdr1(&module_here, &info, &map, RTLD_DL_LINKMAP) == 0)
         map = NULL;
     if (module != MODULE_HERE && module != NULL && !is_loaded(module))
-        return fail(ERROR_MOD_NOT_FOUND);
+        return ntw_fail(ERROR_MOD_NOT_FOUND);
     const char *name = map != NULL ? ((const struct link_map *)map)->l_name : "";
-    return realpath(name[0] != 0 ? name : "/proc/self/exe", path) != NULL || fail(ERROR_MOD_NOT_FOUND);
+    return realpath(name[0] != 0 ? name : "/proc/self/exe", path) != NULL || ntw_fail(ERROR_MOD_NOT_FOUND);
 }
 
 /* Gives a text, whose characters have this number of bytes, and what ends it, or as much as there is room for. Answers as GetModuleFileName. */
@@ -249,7 +249,7 @@ DWORD GetModuleFileNameW(HMODULE module, LPWSTR buffer, DWORD size)
 
 BOOL DisableThreadLibraryCalls(HMODULE module)
 {
-    return module == MODULE_HERE || is_loaded(module) || fail(ERROR_MOD_NOT_FOUND);
+    return module == MODULE_HERE || is_loaded(module) || ntw_fail(ERROR_MOD_NOT_FOUND);
 }
 
 /* ---- Waits of a thread with a queue of messages: there is none, so they are the waits without it. */
@@ -260,7 +260,7 @@ DWORD MsgWaitForMultipleObjectsEx(DWORD count, const HANDLE *objects, DWORD ms, 
     (void)mask;
     if ((flags & ~(MWMO_WAITALL | MWMO_ALERTABLE | MWMO_INPUTAVAILABLE)) != 0 || count >= MAXIMUM_WAIT_OBJECTS
         || (count > 0 && objects == NULL)) {
-        fail(ERROR_INVALID_PARAMETER);
+        ntw_fail(ERROR_INVALID_PARAMETER);
         return WAIT_FAILED;
     }
     if (count > 0)

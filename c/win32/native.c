@@ -137,12 +137,12 @@ __attribute__((always_inline)) static inline NTSTATUS signal_object(HANDLE handl
 {
     const DWORD before = own.last_error;
     struct nt_object object = { 0 };
-    struct seat *seat = begin();
+    struct seat *seat = ntw_begin();
     if (seat == NULL)
         return state_of_error(before);
     note_call(seat);
     read_object(seat, handle, signal == RELEASE ? NT_MUTEX : NT_EVENT, &object);
-    const BOOL is_done = finish(seat, make_signal(seat, signal, number_of(seat, handle)));
+    const BOOL is_done = ntw_finish(seat, make_signal(seat, signal, number_of(seat, handle)));
     if (is_done && previous != NULL)
         *previous = signal == RELEASE ? 1 - (LONG)object.depth : object.set;
     return state_of_call(is_done, handle, before);
@@ -193,7 +193,7 @@ static NTSTATUS query(HANDLE handle, uint32_t kind, struct nt_object *object, bo
     const DWORD before = own.last_error;
     if (!is_class || !is_size)
         return is_class ? STATUS_INFO_LENGTH_MISMATCH : STATUS_INVALID_INFO_CLASS;
-    struct seat *seat = begin();
+    struct seat *seat = ntw_begin();
     if (seat == NULL)
         return state_of_error(before);
     const bool is_there = read_object(seat, handle, kind, object);

@@ -12,10 +12,10 @@ NTW_INTERNAL HANDLE open_by_name(enum kind kind, struct given_name given, DWORD 
     else
         refused = read_name(given, &name);
     if (refused != 0) {
-        fail(refused);
+        ntw_fail(refused);
         return NULL;
     }
-    struct seat *seat = begin();
+    struct seat *seat = ntw_begin();
     if (seat == NULL)
         return NULL;
     struct named *named = find_named(name.text);

@@ -183,7 +183,7 @@ __attribute__((noinline, cold)) static void come_to_address(const volatile void 
 NTW_INTERNAL BOOL wait_on(volatile void *address, const void *compare, SIZE_T size, DWORD ms, enum why why)
 {
     if (size != 1 && size != 2 && size != 4 && size != 8)
-        return fail(ERROR_INVALID_PARAMETER);
+        return ntw_fail(ERROR_INVALID_PARAMETER);
     if (by_schedule())
         come_to_address(address, why);
     if (!is_same(address, compare, size))
@@ -203,7 +203,7 @@ NTW_INTERNAL BOOL wait_on(volatile void *address, const void *compare, SIZE_T si
         atomic_fetch_sub_explicit(&parking->count, 1, memory_order_relaxed);
     give_latch(&parking->latch);
     STEP(park, &parking->latch, waits ? GivesToSleep : GivesToGo);
-    return !waits || sleep_parked(parking, moment) || fail(ERROR_TIMEOUT);
+    return !waits || sleep_parked(parking, moment) || ntw_fail(ERROR_TIMEOUT);
 }
 
 BOOL WaitOnAddress(volatile VOID *address, PVOID compare, SIZE_T size, DWORD ms)

@@ -29,7 +29,7 @@ NTW_INTERNAL void *new_task(bool has_callback, size_t size)
     const uint32_t refused = has_callback ? keep_time() : ERROR_INVALID_PARAMETER;
     void *made = refused == 0 ? calloc(1, size) : NULL;
     if (made == NULL)
-        fail(refused != 0 ? refused : ERROR_NOT_ENOUGH_MEMORY);
+        ntw_fail(refused != 0 ? refused : ERROR_NOT_ENOUGH_MEMORY);
     return made;
 }
 
@@ -50,7 +50,7 @@ PTP_POOL CreateThreadpool(PVOID reserved)
         return NULL;
     PTP_POOL pool = reserved == NULL ? calloc(1, sizeof *pool) : NULL;
     if (pool == NULL) {
-        fail(reserved != NULL ? ERROR_INVALID_PARAMETER : ERROR_NOT_ENOUGH_MEMORY);
+        ntw_fail(reserved != NULL ? ERROR_INVALID_PARAMETER : ERROR_NOT_ENOUGH_MEMORY);
         return NULL;
     }
     pool->most = USUAL_MAXIMUM;
@@ -129,7 +129,7 @@ BOOL SetThreadpoolThreadMinimum(PTP_POOL pool, DWORD least)
         if (!start_in_pool(pool)) {
             const DWORD error = own.last_error;
             set_bounds(pool, before);
-            return fail(error);
+            return ntw_fail(error);
         }
     return TRUE;
 }
@@ -272,7 +272,7 @@ PTP_CLEANUP_GROUP CreateThreadpoolCleanupGroup(void)
 {
     PTP_CLEANUP_GROUP group = calloc(1, sizeof *group);
     if (group == NULL)
-        fail(ERROR_NOT_ENOUGH_MEMORY);
+        ntw_fail(ERROR_NOT_ENOUGH_MEMORY);
     return group;
 }
 
@@ -363,7 +363,7 @@ BOOL CallbackMayRunLong(PTP_CALLBACK_INSTANCE instance)
     take_latch(&pools_latch);
     const bool is_room = pool->idle > 0 || pool->threads < pool->most;
     give_latch(&pools_latch);
-    return is_room || fail(ERROR_TOO_MANY_THREADS);
+    return is_room || ntw_fail(ERROR_TOO_MANY_THREADS);
 }
 
 void DisassociateCurrentThreadFromCallback(PTP_CALLBACK_INSTANCE instance)

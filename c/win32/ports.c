@@ -29,14 +29,14 @@ HANDLE CreateIoCompletionPort(HANDLE file, HANDLE port, ULONG_PTR key, DWORD thr
     struct nt_reply event, reply;
     (void)key;
     if (file != INVALID_HANDLE_VALUE || port != NULL) {
-        fail(file != INVALID_HANDLE_VALUE ? ERROR_INVALID_HANDLE : ERROR_INVALID_PARAMETER);
+        ntw_fail(file != INVALID_HANDLE_VALUE ? ERROR_INVALID_HANDLE : ERROR_INVALID_PARAMETER);
         return NULL;
     }
     struct port *made = calloc(1, sizeof *made);
-    struct seat *seat = made != NULL ? begin() : NULL;
+    struct seat *seat = made != NULL ? ntw_begin() : NULL;
     if (seat == NULL) {
         if (made == NULL)
-            fail(ERROR_NOT_ENOUGH_MEMORY);
+            ntw_fail(ERROR_NOT_ENOUGH_MEMORY);
         free(made);
         return NULL;
     }
@@ -60,7 +60,7 @@ HANDLE CreateIoCompletionPort(HANDLE file, HANDLE port, ULONG_PTR key, DWORD thr
 /* The port that a handle names, which stays until `leave_port`; null, with the last error set, where it names none. */
 static struct port *enter_port(HANDLE handle)
 {
-    struct seat *seat = begin();
+    struct seat *seat = ntw_begin();
     if (seat == NULL)
         return NULL;
     const uint32_t number = listed_number_of(handle);
@@ -166,7 +166,7 @@ NTW_INTERNAL void rest_beside_wait(struct seat *caller)
         return;
     HANDLE event = begin_to_rest();
     if (event != NULL && nt_set_event(&waiting.dispatcher, waiting.places - 1, listed_number_of(event), &reply) == 0)
-        note(caller);
+        ntw_note(caller);
 }
 
 NTW_INTERNAL void go_on_with_packet(void)
@@ -218,7 +218,7 @@ static HANDLE event_to_wait(void)
     HANDLE made = CreateEventA(NULL, FALSE, FALSE, NULL);
     if (made != NULL && (!make_event_key() || pthread_setspecific(event_key.leaving, made) != 0)) {
         CloseHandle(made);
-        fail(ERROR_NOT_ENOUGH_MEMORY);
+        ntw_fail(ERROR_NOT_ENOUGH_MEMORY);
         return NULL;
     }
     if (made != NULL)
@@ -251,7 +251,7 @@ BOOL PostQueuedCompletionStatus(HANDLE handle, DWORD bytes, ULONG_PTR key, LPOVE
         return FALSE;
     struct packet *packet = malloc(sizeof *packet);
     if (packet == NULL)
-        return fail(ERROR_NOT_ENOUGH_MEMORY);
+        return ntw_fail(ERROR_NOT_ENOUGH_MEMORY);
     *packet = (struct packet){ .entry = { .lpCompletionKey = key, .lpOverlapped = overlapped, .dwNumberOfBytesTransferred = bytes } };
     struct port *port = enter_port(handle);
     if (port == NULL) {
@@ -338,7 +338,7 @@ static ULONG get_packets(HANDLE handle, LPOVERLAPPED_ENTRY entries, ULONG count,
         return taken;
     if (error == WAIT_IO_COMPLETION)
         run_apcs(own.seat);
-    fail(error);
+    ntw_fail(error);
     return 0;
 }
 
@@ -357,7 +357,7 @@ BOOL GetQueuedCompletionStatus(HANDLE port, LPDWORD bytes, PULONG_PTR key, LPOVE
 BOOL GetQueuedCompletionStatusEx(HANDLE port, LPOVERLAPPED_ENTRY entries, ULONG count, PULONG removed, DWORD ms, BOOL alertable)
 {
     if (entries == NULL || count == 0 || removed == NULL)
-        return fail(ERROR_INVALID_PARAMETER);
+        return ntw_fail(ERROR_INVALID_PARAMETER);
     *removed = get_packets(port, entries, count, ms, alertable);
     return *removed > 0;
 }

@@ -93,7 +93,7 @@ HANDLE OpenProcess(DWORD access, BOOL inherit, DWORD id)
     (void)inherit;
     if (id != 0 && id == GetCurrentProcessId())
         return CURRENT_PROCESS;
-    fail(id == 0 || id > INT_MAX || (kill((pid_t)id, 0) != 0 && errno == ESRCH) ? ERROR_INVALID_PARAMETER : ERROR_ACCESS_DENIED);
+    ntw_fail(id == 0 || id > INT_MAX || (kill((pid_t)id, 0) != 0 && errno == ESRCH) ? ERROR_INVALID_PARAMETER : ERROR_ACCESS_DENIED);
     return NULL;
 }
 
@@ -146,9 +146,9 @@ BOOL SetPriorityClass(HANDLE handle, DWORD wanted)
         return FALSE;
     switch (wanted) {
     case PROCESS_MODE_BACKGROUND_BEGIN:
-        return !atomic_exchange(&is_in_background, true) || fail(ERROR_PROCESS_MODE_ALREADY_BACKGROUND);
+        return !atomic_exchange(&is_in_background, true) || ntw_fail(ERROR_PROCESS_MODE_ALREADY_BACKGROUND);
     case PROCESS_MODE_BACKGROUND_END:
-        return atomic_exchange(&is_in_background, false) || fail(ERROR_PROCESS_MODE_NOT_BACKGROUND);
+        return atomic_exchange(&is_in_background, false) || ntw_fail(ERROR_PROCESS_MODE_NOT_BACKGROUND);
     case IDLE_PRIORITY_CLASS:
     case BELOW_NORMAL_PRIORITY_CLASS:
     case NORMAL_PRIORITY_CLASS:
@@ -158,7 +158,7 @@ BOOL SetPriorityClass(HANDLE handle, DWORD wanted)
         priority_class = wanted;
         return TRUE;
     default:
-        return fail(ERROR_INVALID_PARAMETER);
+        return ntw_fail(ERROR_INVALID_PARAMETER);
     }
 }
 

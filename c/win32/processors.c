@@ -54,7 +54,7 @@ static DWORD_PTR processors_of_all(void)
 BOOL GetProcessAffinityMask(HANDLE process_handle, PDWORD_PTR process_mask, PDWORD_PTR system_mask)
 {
     if (process_handle != CURRENT_PROCESS)
-        return fail(ERROR_INVALID_HANDLE);
+        return ntw_fail(ERROR_INVALID_HANDLE);
     *process_mask = processors_here();
     *system_mask = processors_of_all();
     return TRUE;
@@ -75,9 +75,9 @@ BOOL SetProcessAffinityMask(HANDLE process_handle, DWORD_PTR mask)
 {
     const cpu_set_t set = set_of(mask);
     if (process_handle != CURRENT_PROCESS)
-        return fail(ERROR_INVALID_HANDLE);
+        return ntw_fail(ERROR_INVALID_HANDLE);
     if (mask == 0 || (mask & ~processors_of_all()) != 0 || sched_setaffinity(0, sizeof set, &set) != 0)
-        return fail(ERROR_INVALID_PARAMETER);
+        return ntw_fail(ERROR_INVALID_PARAMETER);
     DIR *tasks = opendir("/proc/self/task");
     for (const struct dirent *task; tasks != NULL && (task = readdir(tasks)) != NULL;)
         if (task->d_name[0] != '.')
@@ -99,7 +99,7 @@ static pid_t task_of(HANDLE thread)
         const bool has_left = seat->has_left;
         unlock_and_wake(caller);
         if (has_left) {
-            fail(ERROR_ACCESS_DENIED);
+            ntw_fail(ERROR_ACCESS_DENIED);
             return 0;
         }
         if (task != 0)
@@ -119,7 +119,7 @@ static DWORD_PTR put_thread_on(HANDLE thread, DWORD_PTR mask)
         return 0;
     const DWORD_PTR before = processors_of(task);
     if (mask == 0 || (mask & ~all) != 0 || sched_setaffinity(task, sizeof set, &set) != 0) {
-        fail(ERROR_INVALID_PARAMETER);
+        ntw_fail(ERROR_INVALID_PARAMETER);
         return 0;
     }
     return before;
@@ -143,7 +143,7 @@ BOOL GetThreadGroupAffinity(HANDLE thread, PGROUP_AFFINITY affinity)
 BOOL SetThreadGroupAffinity(HANDLE thread, const GROUP_AFFINITY *affinity, PGROUP_AFFINITY before)
 {
     if (affinity->Group != 0)
-        return fail(ERROR_INVALID_PARAMETER);
+        return ntw_fail(ERROR_INVALID_PARAMETER);
     const DWORD_PTR mask = put_thread_on(thread, affinity->Mask);
     if (mask == 0)
         return FALSE;
@@ -157,7 +157,7 @@ static DWORD processors_in(WORD group, long processors)
 {
     if (group == 0 || group == ALL_PROCESSOR_GROUPS)
         return (DWORD)processors;
-    fail(ERROR_INVALID_PARAMETER);
+    ntw_fail(ERROR_INVALID_PARAMETER);
     return 0;
 }
 
@@ -190,7 +190,7 @@ BOOL GetNumaHighestNodeNumber(PULONG highest)
 BOOL GetNumaNodeProcessorMask(UCHAR node, PULONGLONG mask)
 {
     if (node != 0)
-        return fail(ERROR_INVALID_PARAMETER);
+        return ntw_fail(ERROR_INVALID_PARAMETER);
     *mask = mask_of(sysconf(_SC_NPROCESSORS_ONLN));
     return TRUE;
 }
@@ -198,7 +198,7 @@ BOOL GetNumaNodeProcessorMask(UCHAR node, PULONGLONG mask)
 BOOL GetNumaNodeProcessorMaskEx(USHORT node, PGROUP_AFFINITY mask)
 {
     if (node != 0)
-        return fail(ERROR_INVALID_PARAMETER);
+        return ntw_fail(ERROR_INVALID_PARAMETER);
     *mask = (GROUP_AFFINITY){ .Mask = mask_of(sysconf(_SC_NPROCESSORS_ONLN)) };
     return TRUE;
 }
@@ -207,7 +207,7 @@ BOOL GetNumaProcessorNode(UCHAR processor, PUCHAR node)
 {
     if (processor >= sysconf(_SC_NPROCESSORS_CONF)) {
         *node = 0xFF;
-        return fail(ERROR_INVALID_PARAMETER);
+        return ntw_fail(ERROR_INVALID_PARAMETER);
     }
     *node = 0;
     return TRUE;

@@ -8,7 +8,7 @@ _Static_assert(sizeof(struct srw) == sizeof(SRWLOCK), "an SRW lock is one pointe
 /* Among those who sleep on the state. */
 enum { WANT_IT_ALONE = 1, WANT_TO_SHARE = 2 };
 
-NTW_INTERNAL struct srw *srw_of(PSRWLOCK lock)
+NTW_INTERNAL struct srw *ntw_srw_of(PSRWLOCK lock)
 {
     return (struct srw *)(void *)lock;
 }
@@ -124,7 +124,7 @@ void InitializeSRWLock(PSRWLOCK lock)
 BOOLEAN TryAcquireSRWLockExclusive(PSRWLOCK lock)
 {
     may_switch_at(lock);
-    struct srw *srw = srw_of(lock);
+    struct srw *srw = ntw_srw_of(lock);
     uint32_t state = state_of(srw);
     while (is_nobodys(state))
         if (swap_state(srw, &state, state | ALONE)) {
@@ -137,7 +137,7 @@ BOOLEAN TryAcquireSRWLockExclusive(PSRWLOCK lock)
 /* Where a scheduler comes first, or the lock is not free. (Apart, so that the quick way has no frame.) */
 __attribute__((noinline)) static void acquire_slowly(PSRWLOCK lock)
 {
-    struct srw *srw = srw_of(lock);
+    struct srw *srw = ntw_srw_of(lock);
     uint32_t state = 0;
     may_switch_at(lock);
     if (!by_schedule() || !swap_state(srw, &state, ALONE))
@@ -147,7 +147,7 @@ __attribute__((noinline)) static void acquire_slowly(PSRWLOCK lock)
 
 void AcquireSRWLockExclusive(PSRWLOCK lock)
 {
-    struct srw *srw = srw_of(lock);
+    struct srw *srw = ntw_srw_of(lock);
     uint32_t state = 0;
     if (by_schedule() || !swap_state(srw, &state, ALONE))
         acquire_slowly(lock);
@@ -157,7 +157,7 @@ void AcquireSRWLockExclusive(PSRWLOCK lock)
 
 void ReleaseSRWLockExclusive(PSRWLOCK lock)
 {
-    struct srw *srw = srw_of(lock);
+    struct srw *srw = ntw_srw_of(lock);
     comes_before(&srw->state);
     give(srw, ALONE, ALONE);
 }
@@ -165,7 +165,7 @@ void ReleaseSRWLockExclusive(PSRWLOCK lock)
 BOOLEAN TryAcquireSRWLockShared(PSRWLOCK lock)
 {
     may_switch_at(lock);
-    struct srw *srw = srw_of(lock);
+    struct srw *srw = ntw_srw_of(lock);
     uint32_t state = state_of(srw);
     while (may_share(state))
         if (swap_state(srw, &state, state + SHARER)) {
@@ -178,7 +178,7 @@ BOOLEAN TryAcquireSRWLockShared(PSRWLOCK lock)
 void AcquireSRWLockShared(PSRWLOCK lock)
 {
     may_switch_at(lock);
-    struct srw *srw = srw_of(lock);
+    struct srw *srw = ntw_srw_of(lock);
     uint32_t state = state_of(srw);
     if (!may_share(state) || !swap_state(srw, &state, state + SHARER))
         wait_to_share(srw);
@@ -187,7 +187,7 @@ void AcquireSRWLockShared(PSRWLOCK lock)
 
 void ReleaseSRWLockShared(PSRWLOCK lock)
 {
-    struct srw *srw = srw_of(lock);
+    struct srw *srw = ntw_srw_of(lock);
     comes_before(&srw->state);
     const uint32_t state = state_of(srw);
     if ((state & (SHARERS_WAIT | ALONE_WAITERS)) == 0)

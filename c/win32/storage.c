@@ -173,7 +173,7 @@ static DWORD take_slot(enum slot_kind kind, PFLS_CALLBACK_FUNCTION callback)
     give_latch(&storages.latch);
     if (is_found)
         return index;
-    fail(ERROR_NO_MORE_ITEMS);
+    ntw_fail(ERROR_NO_MORE_ITEMS);
     return TLS_OUT_OF_INDEXES;
 }
 
@@ -200,7 +200,7 @@ static BOOL give_slot(enum slot_kind kind, DWORD index)
     PFLS_CALLBACK_FUNCTION callback;
     PVOID value;
     if (!is_slot(kind, index) || atomic_load_explicit(&slots_of[kind].slots[index].turn, memory_order_relaxed) % 2 == 0)
-        return fail(ERROR_INVALID_PARAMETER);
+        return ntw_fail(ERROR_INVALID_PARAMETER);
     while ((value = next_value_of_slot(kind, index, &callback)) != NULL)
         callback(value);
     return TRUE;
@@ -209,7 +209,7 @@ static BOOL give_slot(enum slot_kind kind, DWORD index)
 static inline PVOID get_value(enum slot_kind kind, DWORD index)
 {
     if (!is_slot(kind, index)) {
-        fail(ERROR_INVALID_PARAMETER);
+        ntw_fail(ERROR_INVALID_PARAMETER);
         return NULL;
     }
     own.last_error = ERROR_SUCCESS;
@@ -225,11 +225,11 @@ static inline PVOID get_value(enum slot_kind kind, DWORD index)
 static inline BOOL set_value(enum slot_kind kind, DWORD index, PVOID new_value)
 {
     if (!is_slot(kind, index))
-        return fail(ERROR_INVALID_PARAMETER);
+        return ntw_fail(ERROR_INVALID_PARAMETER);
     struct storage *mine = storage_of(kind);
     struct value *value = mine != NULL ? value_in(mine, kind, index) : NULL;
     if (value == NULL && (value = make_value(kind, index)) == NULL)
-        return fail(ERROR_NOT_ENOUGH_MEMORY);
+        return ntw_fail(ERROR_NOT_ENOUGH_MEMORY);
     atomic_store_explicit(&value->value, new_value, memory_order_release);
     atomic_store_explicit(&value->turn, atomic_load_explicit(&slots_of[kind].slots[index].turn, memory_order_relaxed),
                           memory_order_relaxed);

@@ -66,14 +66,14 @@ static bool write_version(void *to, DWORD size, size_t bytes)
 
 BOOL GetVersionExA(LPOSVERSIONINFOA version)
 {
-    return write_version(version, version->dwOSVersionInfoSize, 1) || fail(ERROR_INSUFFICIENT_BUFFER);
+    return write_version(version, version->dwOSVersionInfoSize, 1) || ntw_fail(ERROR_INSUFFICIENT_BUFFER);
 }
 
 /* (The characters of a program may have 16 bits: utf16.c.) */
 BOOL GetVersionExW(LPOSVERSIONINFOW version)
 {
     const DWORD size = version->dwOSVersionInfoSize;
-    return write_version(version, size, sizeof(WCHAR)) || write_version(version, size, sizeof(uint16_t)) || fail(ERROR_INSUFFICIENT_BUFFER);
+    return write_version(version, size, sizeof(WCHAR)) || write_version(version, size, sizeof(uint16_t)) || ntw_fail(ERROR_INSUFFICIENT_BUFFER);
 }
 
 /* (Where the size is none, what each structure has is written.) */
@@ -91,7 +91,7 @@ BOOL GlobalMemoryStatusEx(LPMEMORYSTATUSEX status)
 {
     struct sysinfo found;
     if (status->dwLength != sizeof *status || sysinfo(&found) != 0)
-        return fail(ERROR_INVALID_PARAMETER);
+        return ntw_fail(ERROR_INVALID_PARAMETER);
     const uint64_t unit = found.mem_unit, all = found.totalram * unit, rest = found.freeram * unit;
     *status = (MEMORYSTATUSEX){
         .dwLength = sizeof *status,
@@ -174,7 +174,7 @@ BOOL FileTimeToSystemTime(const FILETIME *from, LPSYSTEMTIME to)
     struct tm parts;
     const int64_t moments = moments_of(from);
     if (moments < 0)
-        return fail(ERROR_INVALID_PARAMETER);
+        return ntw_fail(ERROR_INVALID_PARAMETER);
     const time_t seconds = seconds_of(moments);
     set_system_time(to, gmtime_r(&seconds, &parts), (uint64_t)moments);
     return TRUE;
@@ -191,7 +191,7 @@ BOOL SystemTimeToFileTime(const SYSTEMTIME *from, LPFILETIME to)
     if (from->wYear < 1601 || from->wYear > 30827 || from->wMonth < 1 || from->wMonth > 12 || from->wDay < 1
         || from->wDay > days[from->wMonth - 1] + (from->wMonth == 2 && is_leap(from->wYear)) || from->wHour > 23 || from->wMinute > 59
         || from->wSecond > 59 || from->wMilliseconds > 999)
-        return fail(ERROR_INVALID_PARAMETER);
+        return ntw_fail(ERROR_INVALID_PARAMETER);
     struct tm parts = {
         .tm_year = from->wYear - 1900,
         .tm_mon = from->wMonth - 1,
@@ -218,7 +218,7 @@ BOOL FileTimeToLocalFileTime(const FILETIME *from, LPFILETIME to)
 {
     const int64_t moments = moments_of(from);
     if (moments < 0)
-        return fail(ERROR_INVALID_PARAMETER);
+        return ntw_fail(ERROR_INVALID_PARAMETER);
     set_file_time(to, (uint64_t)moments + (uint64_t)moments_ahead(moments));
     return TRUE;
 }
@@ -227,7 +227,7 @@ BOOL LocalFileTimeToFileTime(const FILETIME *from, LPFILETIME to)
 {
     const int64_t moments = moments_of(from);
     if (moments < 0)
-        return fail(ERROR_INVALID_PARAMETER);
+        return ntw_fail(ERROR_INVALID_PARAMETER);
     const uint64_t near = (uint64_t)moments - (uint64_t)moments_ahead(moments);
     set_file_time(to, (uint64_t)moments - (uint64_t)moments_ahead((int64_t)near));
     return TRUE;

@@ -51,7 +51,7 @@ static int write_character(unsigned char bytes[4], uint32_t point)
 NTW_INTERNAL int counted(int64_t count, int size)
 {
     if (count > INT_MAX || (size != 0 && count > size)) {
-        fail(ERROR_INSUFFICIENT_BUFFER);
+        ntw_fail(ERROR_INSUFFICIENT_BUFFER);
         return 0;
     }
     return (int)count;
@@ -61,11 +61,11 @@ int MultiByteToWideChar(UINT page, DWORD flags, LPCSTR text, int length, LPWSTR 
 {
     if (!is_page(page) || text == NULL || length == 0 || length < -1 || size < 0 || (size > 0 && wide == NULL)
         || (const void *)text == (const void *)wide) {
-        fail(ERROR_INVALID_PARAMETER);
+        ntw_fail(ERROR_INVALID_PARAMETER);
         return 0;
     }
     if ((flags & ~(MB_ERR_INVALID_CHARS | (page == CP_UTF8 ? 0 : MB_PRECOMPOSED))) != 0) {
-        fail(ERROR_INVALID_FLAGS);
+        ntw_fail(ERROR_INVALID_FLAGS);
         return 0;
     }
     const unsigned char *at = (const unsigned char *)text, *end = at + (length < 0 ? strlen(text) + 1 : (size_t)length);
@@ -73,7 +73,7 @@ int MultiByteToWideChar(UINT page, DWORD flags, LPCSTR text, int length, LPWSTR 
     for (uint32_t point; at != end; count++) {
         if (!read_character(&at, end, &point)) {
             if ((flags & MB_ERR_INVALID_CHARS) != 0) {
-                fail(ERROR_NO_UNICODE_TRANSLATION);
+                ntw_fail(ERROR_NO_UNICODE_TRANSLATION);
                 return 0;
             }
             point = NO_CHARACTER;
@@ -88,11 +88,11 @@ int WideCharToMultiByte(UINT page, DWORD flags, LPCWSTR wide, int length, LPSTR 
 {
     if (!is_page(page) || wide == NULL || length == 0 || length < -1 || size < 0 || (size > 0 && text == NULL)
         || (const void *)text == (const void *)wide || (page == CP_UTF8 && (other != NULL || used_other != NULL))) {
-        fail(ERROR_INVALID_PARAMETER);
+        ntw_fail(ERROR_INVALID_PARAMETER);
         return 0;
     }
     if ((flags & ~(page == CP_UTF8 ? WC_ERR_INVALID_CHARS : WC_NO_BEST_FIT_CHARS)) != 0) {
-        fail(ERROR_INVALID_FLAGS);
+        ntw_fail(ERROR_INVALID_FLAGS);
         return 0;
     }
     const size_t characters = length < 0 ? wcslen(wide) + 1 : (size_t)length;
@@ -104,7 +104,7 @@ int WideCharToMultiByte(UINT page, DWORD flags, LPCWSTR wide, int length, LPSTR 
         uint32_t point = (uint32_t)wide[i];
         if (!is_character(point)) {
             if ((flags & WC_ERR_INVALID_CHARS) != 0) {
-                fail(ERROR_NO_UNICODE_TRANSLATION);
+                ntw_fail(ERROR_NO_UNICODE_TRANSLATION);
                 return 0;
             }
             point = NO_CHARACTER;

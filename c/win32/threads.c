@@ -6,7 +6,7 @@
 /* The thread that this handle names, with the lock taken; null, with the last error set and the lock given back, where it names none. */
 NTW_INTERNAL struct seat *begin_with_thread(HANDLE handle, struct seat **caller)
 {
-    struct seat *seat = *caller = begin();
+    struct seat *seat = *caller = ntw_begin();
     if (seat == NULL || handle == CURRENT_THREAD)
         return seat;
     const uint32_t number = listed_number_of(handle);
@@ -73,7 +73,7 @@ static struct seat *seat_with_id(DWORD id)
 HANDLE OpenThread(DWORD access, BOOL inherit, DWORD id)
 {
     struct nt_reply reply;
-    struct seat *caller = begin();
+    struct seat *caller = ntw_begin();
     (void)inherit;
     if (caller == NULL)
         return NULL;
@@ -89,7 +89,7 @@ HANDLE OpenThread(DWORD access, BOOL inherit, DWORD id)
         name_thread(reply.number, seat);
         made = give_handle(reply.number);
     }
-    return finish(caller, refused) ? made : NULL;
+    return ntw_finish(caller, refused) ? made : NULL;
 }
 
 DWORD ResumeThread(HANDLE thread)
@@ -221,13 +221,13 @@ BOOL GetThreadPriorityBoost(HANDLE thread, PBOOL is_disabled)
 
 NTW_INTERNAL BOOL is_process(HANDLE handle)
 {
-    return handle == CURRENT_PROCESS || fail(ERROR_INVALID_HANDLE);
+    return handle == CURRENT_PROCESS || ntw_fail(ERROR_INVALID_HANDLE);
 }
 
 /* For all threads, whatever was said of one before. */
 BOOL SetProcessPriorityBoost(HANDLE handle, BOOL is_disabled)
 {
-    struct seat *caller = is_process(handle) ? begin() : NULL;
+    struct seat *caller = is_process(handle) ? ntw_begin() : NULL;
     if (caller == NULL)
         return FALSE;
     is_process_boosted = !is_disabled;

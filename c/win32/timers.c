@@ -214,14 +214,14 @@ NTW_INTERNAL PTP_TIMER make_timer(struct _TP_TIMER what, PVOID context, PTP_CALL
     if (is_at_latch())
         return NULL;
     if (what.callback == NULL && what.queue_callback == NULL) {
-        fail(ERROR_INVALID_PARAMETER);
+        ntw_fail(ERROR_INVALID_PARAMETER);
         return NULL;
     }
     PTP_TIMER timer = malloc(sizeof *timer);
     const uint32_t refused = timer != NULL ? admit_timer() : ERROR_NOT_ENOUGH_MEMORY;
     if (refused != 0) {
         free(timer);
-        fail(refused);
+        ntw_fail(refused);
         return NULL;
     }
     *timer = what;
@@ -230,7 +230,7 @@ NTW_INTERNAL PTP_TIMER make_timer(struct _TP_TIMER what, PVOID context, PTP_CALL
     timer->task.stop = stop_timer;
     if (!open_task(&timer->task, context, environment)) {
         free_timer(&timer->task);
-        fail(ERROR_INVALID_HANDLE);
+        ntw_fail(ERROR_INVALID_HANDLE);
         return NULL;
     }
     return timer;
@@ -296,7 +296,7 @@ BOOL ChangeTimerQueueTimer(HANDLE queue, HANDLE timer, ULONG due, ULONG period)
     PTP_TIMER it = timer;
     (void)queue;
     if (it == NULL)
-        return fail(ERROR_INVALID_PARAMETER);
+        return ntw_fail(ERROR_INVALID_PARAMETER);
     if (is_at_latch())
         return FALSE;
     take_latch(&pools_latch);
@@ -311,7 +311,7 @@ BOOL DeleteTimerQueueTimer(HANDLE queue, HANDLE timer, HANDLE event)
 {
     (void)queue;
     if (timer == NULL)
-        return fail(ERROR_INVALID_PARAMETER);
+        return ntw_fail(ERROR_INVALID_PARAMETER);
     return end_task(&((PTP_TIMER)timer)->task, event);
 }
 
@@ -330,7 +330,7 @@ BOOL DeleteTimerQueueEx(HANDLE queue, HANDLE event)
 {
     PTP_CLEANUP_GROUP group = queue;
     if (queue == NULL)
-        return fail(ERROR_INVALID_HANDLE);
+        return ntw_fail(ERROR_INVALID_HANDLE);
     if (is_at_latch())
         return FALSE;
     take_latch(&pools_latch);
@@ -346,7 +346,7 @@ BOOL DeleteTimerQueueEx(HANDLE queue, HANDLE event)
     struct task *timers_of_it = is_busy ? NULL : take_members(group);
     give_latch(&pools_latch);
     if (is_busy)
-        return fail(ERROR_IO_PENDING);
+        return ntw_fail(ERROR_IO_PENDING);
     let_go_of_members(timers_of_it);
     end_group(group);
     return TRUE;

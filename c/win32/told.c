@@ -40,7 +40,7 @@ static void look_at_sleeper(const struct sleeper *sleeper, struct told *it)
         snprintf(it->what, sizeof it->what, "waits for the critical section %p", (void *)sleeper->section);
         return;
     }
-    const uint32_t state = state_of(srw_of(sleeper->lock));
+    const uint32_t state = state_of(ntw_srw_of(sleeper->lock));
     const int length = snprintf(it->what, sizeof it->what, "waits for the SRW lock %p, %s", (void *)sleeper->lock,
                                 sleeper->shares ? "to share it" : "to have it alone");
     if ((state & SHARERS) == ALONE)
@@ -110,26 +110,26 @@ NTW_INTERNAL bool begins_knot(DWORD first)
 
 NTW_INTERNAL void write_id(struct report *to, DWORD id)
 {
-    add(to, "thread %u", id);
+    ntw_add(to, "thread %u", id);
 }
 
 NTW_INTERNAL void write_told(struct report *to, const struct told *it, thread_writer *write_thread)
 {
     write_thread(to, it->id);
-    add(to, " %s", it->what);
+    ntw_add(to, " %s", it->what);
     if (it->owner != 0) {
         add_text(to, ", which ");
         write_thread(to, it->owner);
-        add(to, " owns, %d deep", it->depth);
+        ntw_add(to, " owns, %d deep", it->depth);
     }
     add_letter(to, '\n');
 }
 
 static void write_knot_of_ids(struct report *to, DWORD first)
 {
-    add(to, "by critical sections, none of which is ever left, hold each other: thread %u", first);
+    ntw_add(to, "by critical sections, none of which is ever left, hold each other: thread %u", first);
     for (DWORD at = held_by(first); at != first; at = held_by(at))
-        add(to, ", %u", at);
+        ntw_add(to, ", %u", at);
     add_letter(to, '\n');
 }
 

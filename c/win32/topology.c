@@ -46,7 +46,7 @@ BOOL GetLogicalProcessorInformation(PSYSTEM_LOGICAL_PROCESSOR_INFORMATION buffer
     const DWORD size = (DWORD)((core_count + package_count + 1) * sizeof *buffer), room = *length;
     *length = size;
     if (room < size)
-        return fail(ERROR_INSUFFICIENT_BUFFER);
+        return ntw_fail(ERROR_INSUFFICIENT_BUFFER);
     memset(buffer, 0, size);
     for (DWORD i = 0; i < core_count; i++, buffer++) {
         buffer->ProcessorMask = cores[i];
@@ -115,13 +115,13 @@ BOOL GetLogicalProcessorInformationEx(LOGICAL_PROCESSOR_RELATIONSHIP relationshi
     const DWORD_PTR all = mask_of(sysconf(_SC_NPROCESSORS_ONLN));
     const bool every = relationship == RelationAll, node = every || relationship == RelationNumaNode, group = every || relationship == RelationGroup;
     if (!every && relationship > RelationGroup)
-        return fail(ERROR_INVALID_PARAMETER);
+        return ntw_fail(ERROR_INVALID_PARAMETER);
     const DWORD core_count = every || relationship == RelationProcessorCore ? share_processors(true, cores) : 0;
     const DWORD package_count = every || relationship == RelationProcessorPackage ? share_processors(false, packages) : 0;
     const DWORD size = (core_count + package_count + node) * SIZE_OF_ENTRY + group * SIZE_OF_GROUP, room = *length;
     *length = size;
     if (room < size)
-        return fail(ERROR_INSUFFICIENT_BUFFER);
+        return ntw_fail(ERROR_INSUFFICIENT_BUFFER);
     if (size > 0)
         memset(buffer, 0, size);
     BYTE *at = put_processors((BYTE *)buffer, RelationProcessorCore, cores, core_count);

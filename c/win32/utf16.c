@@ -51,7 +51,7 @@ static WCHAR *widened_whole(const uint16_t *text)
     size_t characters;
     WCHAR *wide = text != NULL ? widened(text, units_of(text) + 1, &characters) : NULL;
     if (text != NULL && wide == NULL)
-        fail(ERROR_NOT_ENOUGH_MEMORY);
+        ntw_fail(ERROR_NOT_ENOUGH_MEMORY);
     return wide;
 }
 
@@ -134,12 +134,12 @@ HANDLE ntwin_utf16_OpenWaitableTimerW(DWORD access, BOOL inherit, const uint16_t
 int ntwin_utf16_MultiByteToWideChar(UINT page, DWORD flags, LPCSTR text, int length, uint16_t *utf16, int size)
 {
     const bool is_invalid = size < 0 || (size > 0 && utf16 == NULL) || (const void *)text == (const void *)utf16;
-    const int characters = is_invalid ? fail(ERROR_INVALID_PARAMETER) : MultiByteToWideChar(page, flags, text, length, NULL, 0);
+    const int characters = is_invalid ? ntw_fail(ERROR_INVALID_PARAMETER) : MultiByteToWideChar(page, flags, text, length, NULL, 0);
     if (characters == 0)
         return 0;
     WCHAR *wide = malloc((size_t)characters * sizeof *wide);
     if (wide == NULL)
-        return fail(ERROR_NOT_ENOUGH_MEMORY);
+        return ntw_fail(ERROR_NOT_ENOUGH_MEMORY);
     MultiByteToWideChar(page, flags, text, length, wide, characters);
     const int64_t units = narrow_to_utf16(utf16, size, wide, (size_t)characters);
     free(wide);
@@ -150,10 +150,10 @@ int ntwin_utf16_WideCharToMultiByte(UINT page, DWORD flags, const uint16_t *utf1
 {
     size_t characters;
     if (utf16 == NULL || length == 0 || length < -1 || (const void *)text == (const void *)utf16)
-        return fail(ERROR_INVALID_PARAMETER);
+        return ntw_fail(ERROR_INVALID_PARAMETER);
     WCHAR *wide = widened(utf16, length < 0 ? units_of(utf16) + 1 : (size_t)length, &characters);
     if (wide == NULL)
-        return fail(ERROR_NOT_ENOUGH_MEMORY);
+        return ntw_fail(ERROR_NOT_ENOUGH_MEMORY);
     const int bytes = WideCharToMultiByte(page, flags, wide, (int)characters, text, size, other, used_other);
     free(wide);
     return bytes;

@@ -180,13 +180,13 @@ BOOL RegisterWaitForSingleObject(PHANDLE wait, HANDLE object, WAITORTIMERCALLBAC
         return TRUE;
     *wait = NULL;
     close_task(&made->task, NULL);
-    return fail(refused);
+    return ntw_fail(refused);
 }
 
 BOOL UnregisterWaitEx(HANDLE wait, HANDLE event)
 {
     if (wait == NULL || wait == INVALID_HANDLE_VALUE)
-        return fail(ERROR_INVALID_HANDLE);
+        return ntw_fail(ERROR_INVALID_HANDLE);
     return end_task(&((struct registered *)wait)->task, event);
 }
 
