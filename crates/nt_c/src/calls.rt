@@ -9,6 +9,18 @@ use crate::reply::{NtReply, tell};
 use nt_core::{Act, Call};
 use nt_status::Handle;
 
+impl Nt {
+    /// Has this thread do the act, and tells C what is answered.
+    #[inline(always)]
+    fn act(&mut self, who: u32, act: Act, out: &mut NtReply) -> u32
+        requires fit { IsFit self.old }
+        ensures fit { IsFit self.new }
+        ensures answers { Acts self.old who act result out.old out.new self.new }
+    {
+        tell(self.ask(who, &Call::Act(act)), out)
+    }
+}
+
 /// DuplicateHandle: one handle more for what this one names, with these rights, none of which the first may lack.
 #[unsafe(no_mangle)]
 pub extern "C" fn nt_duplicate(
@@ -26,7 +38,7 @@ pub extern "C" fn nt_duplicate(
         handle: Handle::new(handle),
         access,
     };
-    tell(nt.ask(who, &Call::Act(act)), out)
+    nt.act(who, act, out)
 }
 
 /// CloseHandle: the handle no longer names anything, and no other gets its number, unless the dispatcher gives numbers again.
@@ -36,8 +48,7 @@ pub extern "C" fn nt_close_handle(nt: &mut Nt, who: u32, handle: u32, out: &mut 
     ensures fit { IsFit nt.new }
     ensures answers { Acts nt.old who (Act.Close handle) result out.old out.new nt.new }
 {
-    let act = Act::Close(Handle::new(handle));
-    tell(nt.ask(who, &Call::Act(act)), out)
+    nt.act(who, Act::Close(Handle::new(handle)), out)
 }
 
 /// ExitThread: the calling thread ends.
@@ -57,8 +68,7 @@ pub extern "C" fn nt_create_event(nt: &mut Nt, who: u32, flags: u32, out: &mut N
     ensures fit { IsFit nt.new }
     ensures answers { Acts nt.old who (Act.CreateEvent flags) result out.old out.new nt.new }
 {
-    let act = Act::CreateEvent(flags);
-    tell(nt.ask(who, &Call::Act(act)), out)
+    nt.act(who, Act::CreateEvent(flags), out)
 }
 
 /// SetEvent.
@@ -68,8 +78,7 @@ pub extern "C" fn nt_set_event(nt: &mut Nt, who: u32, event: u32, out: &mut NtRe
     ensures fit { IsFit nt.new }
     ensures answers { Acts nt.old who (Act.SetEvent event) result out.old out.new nt.new }
 {
-    let act = Act::SetEvent(Handle::new(event));
-    tell(nt.ask(who, &Call::Act(act)), out)
+    nt.act(who, Act::SetEvent(Handle::new(event)), out)
 }
 
 /// ResetEvent.
@@ -79,8 +88,7 @@ pub extern "C" fn nt_reset_event(nt: &mut Nt, who: u32, event: u32, out: &mut Nt
     ensures fit { IsFit nt.new }
     ensures answers { Acts nt.old who (Act.ResetEvent event) result out.old out.new nt.new }
 {
-    let act = Act::ResetEvent(Handle::new(event));
-    tell(nt.ask(who, &Call::Act(act)), out)
+    nt.act(who, Act::ResetEvent(Handle::new(event)), out)
 }
 
 /// PulseEvent.
@@ -90,8 +98,7 @@ pub extern "C" fn nt_pulse_event(nt: &mut Nt, who: u32, event: u32, out: &mut Nt
     ensures fit { IsFit nt.new }
     ensures answers { Acts nt.old who (Act.PulseEvent event) result out.old out.new nt.new }
 {
-    let act = Act::PulseEvent(Handle::new(event));
-    tell(nt.ask(who, &Call::Act(act)), out)
+    nt.act(who, Act::PulseEvent(Handle::new(event)), out)
 }
 
 /// CreateMutex, with the flag of CreateMutexEx: 1 owned by the caller. It answers the mutex's handle.
@@ -101,8 +108,7 @@ pub extern "C" fn nt_create_mutex(nt: &mut Nt, who: u32, flags: u32, out: &mut N
     ensures fit { IsFit nt.new }
     ensures answers { Acts nt.old who (Act.CreateMutex flags) result out.old out.new nt.new }
 {
-    let act = Act::CreateMutex(flags);
-    tell(nt.ask(who, &Call::Act(act)), out)
+    nt.act(who, Act::CreateMutex(flags), out)
 }
 
 /// ReleaseMutex.
@@ -112,8 +118,7 @@ pub extern "C" fn nt_release_mutex(nt: &mut Nt, who: u32, mutex: u32, out: &mut 
     ensures fit { IsFit nt.new }
     ensures answers { Acts nt.old who (Act.ReleaseMutex mutex) result out.old out.new nt.new }
 {
-    let act = Act::ReleaseMutex(Handle::new(mutex));
-    tell(nt.ask(who, &Call::Act(act)), out)
+    nt.act(who, Act::ReleaseMutex(Handle::new(mutex)), out)
 }
 
 /// CreateSemaphore. It answers the semaphore's handle.
@@ -129,8 +134,7 @@ pub extern "C" fn nt_create_semaphore(
     ensures fit { IsFit nt.new }
     ensures answers { Acts nt.old who (Act.CreateSemaphore initial maximum) result out.old out.new nt.new }
 {
-    let act = Act::CreateSemaphore { initial, maximum };
-    tell(nt.ask(who, &Call::Act(act)), out)
+    nt.act(who, Act::CreateSemaphore { initial, maximum }, out)
 }
 
 /// ReleaseSemaphore. It answers the count before.
@@ -150,7 +154,7 @@ pub extern "C" fn nt_release_semaphore(
         semaphore: Handle::new(semaphore),
         count,
     };
-    tell(nt.ask(who, &Call::Act(act)), out)
+    nt.act(who, act, out)
 }
 
 /// CreateWaitableTimer, with the flag of CreateWaitableTimerEx: 1 manual reset. It answers the timer's handle.
@@ -160,8 +164,7 @@ pub extern "C" fn nt_create_timer(nt: &mut Nt, who: u32, flags: u32, out: &mut N
     ensures fit { IsFit nt.new }
     ensures answers { Acts nt.old who (Act.CreateTimer flags) result out.old out.new nt.new }
 {
-    let act = Act::CreateTimer(flags);
-    tell(nt.ask(who, &Call::Act(act)), out)
+    nt.act(who, Act::CreateTimer(flags), out)
 }
 
 /// SetWaitableTimer with no routine. The due time is a moment, or from now on where it is negative, in units of 100 ns; the period is in
@@ -185,7 +188,7 @@ pub extern "C" fn nt_set_timer(
         period,
         routine: None,
     };
-    tell(nt.ask(who, &Call::Act(act)), out)
+    nt.act(who, act, out)
 }
 
 /// SetWaitableTimer with a routine, which is queued to the caller with its argument when the timer expires.
@@ -211,7 +214,7 @@ pub extern "C" fn nt_set_timer_apc(
         period,
         routine: Some((routine, arg)),
     };
-    tell(nt.ask(who, &Call::Act(act)), out)
+    nt.act(who, act, out)
 }
 
 /// CancelWaitableTimer.
@@ -221,8 +224,7 @@ pub extern "C" fn nt_cancel_timer(nt: &mut Nt, who: u32, timer: u32, out: &mut N
     ensures fit { IsFit nt.new }
     ensures answers { Acts nt.old who (Act.CancelTimer timer) result out.old out.new nt.new }
 {
-    let act = Act::CancelTimer(Handle::new(timer));
-    tell(nt.ask(who, &Call::Act(act)), out)
+    nt.act(who, Act::CancelTimer(Handle::new(timer)), out)
 }
 
 /// QueueUserAPC, to the thread that the handle names.
@@ -244,7 +246,7 @@ pub extern "C" fn nt_queue_apc(
         routine,
         arg,
     };
-    tell(nt.ask(who, &Call::Act(act)), out)
+    nt.act(who, act, out)
 }
 
 /// Takes the caller's oldest APC, where its last ended wait ended for its APCs and it has not found none since.
@@ -254,6 +256,5 @@ pub extern "C" fn nt_next_apc(nt: &mut Nt, who: u32, out: &mut NtReply) -> u32
     ensures fit { IsFit nt.new }
     ensures answers { Acts nt.old who Act.NextApc result out.old out.new nt.new }
 {
-    let act = Act::NextApc;
-    tell(nt.ask(who, &Call::Act(act)), out)
+    nt.act(who, Act::NextApc, out)
 }

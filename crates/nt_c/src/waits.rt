@@ -44,24 +44,6 @@ fn few_handles_of(numbers: &[u32]) -> FewHandles
     handles
 }
 
-/// The wait for the few objects that the handles with these numbers name.
-fn wait_for_few(
-    nt: &mut Nt,
-    who: u32,
-    numbers: &[u32],
-    all: bool,
-    mode: WaitMode,
-) -> Result<Reply, Refusal>
-    requires fit { IsFit nt.old }
-    requires few { length numbers.now ≤ FEW_OBJECTS }
-    ensures fit { IsFit nt.new }
-    ensures asked { Asked nt.old.cell.held who (Call.Wait (WaitCall.Objects all mode numbers.now))
-        result nt.new.cell.held }
-{
-    let these = few_handles_of(numbers);
-    nt.wait(who, these.as_slice(), all, mode)
-}
-
 /// The wait for the objects that the handles with these numbers name.
 fn wait_for_many(
     nt: &mut Nt,
@@ -97,12 +79,12 @@ pub extern "C" fn nt_wait_objects(
         result out.old out.new nt.new }
 {
     let mode = WaitMode { ms, alertable };
-    let asked = if handles.len() <= FEW_OBJECTS {
-        wait_for_few(nt, who, handles, all, mode)
+    if handles.len() <= FEW_OBJECTS {
+        let these = few_handles_of(handles);
+        tell(nt.wait(who, these.as_slice(), all, mode), out)
     } else {
-        wait_for_many(nt, who, handles, all, mode)
-    };
-    tell(asked, out)
+        tell(wait_for_many(nt, who, handles, all, mode), out)
+    }
 }
 
 /// WaitForSingleObjectEx. The timeout is in milliseconds, 0xFFFFFFFF for INFINITE.
