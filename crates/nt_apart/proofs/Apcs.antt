@@ -20,8 +20,7 @@ use Rattle.nt_calls.specs.Rising.{AreRising}
 use Rattle.nt_calls.specs.State.{State, Pending, wait_over, waits_over}
 use Rattle.nt_calls.specs.Serving.{satisfied, IsServed, Alert, IsAlerted, ending, sequence}
 use Rattle.nt_calls.specs.Steps.{Step}
-use Rattle.nt_apart.specs.Apart.{StepsGoOtherwise}
-use Rattle.nt_apart.specs.Apcs.{queues_one, AreApcsToTwoThreads}
+use Rattle.nt_apart.specs.Apart.{StepsGoOtherwise, queues_one, AreApcsToTwoThreads}
 use Rattle.nt_apart.proofs.Quiet.{serve_none, rising_along}
 use Rattle.nt_apart.proofs.Waiting.{none_changed}
 use Rattle.nt_apart.proofs.Pieces.{remove_comm, others_comm}

@@ -21,9 +21,7 @@ use Rattle.nt_calls.specs.State.{State, Pending, object_at, with_object, wait_na
 use Rattle.nt_calls.specs.Serving.{IsServed}
 use Rattle.nt_calls.specs.Change.{at}
 use Rattle.nt_calls.specs.Steps.{Step}
-use Rattle.nt_apart.specs.Apart.{StepsGoOtherwise}
-use Rattle.nt_apart.specs.Reach.{signaled_one}
-use Rattle.nt_apart.specs.Apcs.{WaitsNotFor, AreSignalAndApc, AreApcAndSignal}
+use Rattle.nt_apart.specs.Apart.{StepsGoOtherwise, signaled_one, WaitsNotFor, AreSignalAndApc, AreApcAndSignal}
 use Rattle.nt_apart.proofs.Pieces.{Piece, Alters, Ends, made, all_made, alerted_before, find_flat, find_others, remove_comm, others_comm}
 use Rattle.nt_apart.proofs.Reach.{AreOf, IsBeside, beside_back, only_one}
 use Rattle.nt_apart.proofs.Signals.{signaling, signal_step, make_signal, settled_served, pieces_in, whole, whole_of, whole_is, own_pieces, moved}

@@ -22,8 +22,7 @@ use Rattle.nt_calls.specs.State.{State, object_at, with_object, wait_names, pend
 use Rattle.nt_calls.specs.Serving.{IsServed, Serve, IsAlerted, IsChanged, fits, sequence}
 use Rattle.nt_calls.specs.Change.{at, exited}
 use Rattle.nt_calls.specs.Steps.{Step}
-use Rattle.nt_apart.specs.Apart.{IsQuiet}
-use Rattle.nt_apart.specs.Reach.{IsInReach}
+use Rattle.nt_apart.specs.Apart.{IsQuiet, IsInReach}
 use Rattle.nt_apart.specs.Footprint.{belongs, ends_with, WaitsFor, TouchesObject}
 use Rattle.nt_apart.proofs.Quiet.{alert_none, none_to_alert, rising_along}
 use Rattle.nt_apart.proofs.Waits.{fits_agree}

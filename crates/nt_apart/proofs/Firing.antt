@@ -27,8 +27,7 @@ use Rattle.nt_apart.proofs.Quiet.{alert_none, none_to_alert}
 use Rattle.nt_apart.proofs.Pieces.{Piece, all_made, alerted_before}
 use Rattle.nt_apart.proofs.Reach.{AreOf, IsBeside, change_agree, is_named, only_one, pieces_of, source_is, granted_beside, due_beside}
 use Rattle.nt_apart.proofs.Apcs.{has_other}
-use Rattle.nt_apart.proofs.Timers.{IsQuietTo, IsQuietStep, quiet_step, make_quiet, timed, set_so, unready, calm_so, had_apc, both_true}
-use Rattle.nt_apart.proofs.TimersBeside.{numbers_for}
+use Rattle.nt_apart.proofs.Timers.{IsQuietTo, IsQuietStep, quiet_step, make_quiet, timed, set_so, unready, calm_so, had_apc, both_true, numbers_for}
 use Rattle.nt_apart.proofs.Parts.{Part, Changes, Posts, Withdraws, AllKeep, AllStrange, all_done, SomeOnObject, SomeOnThread, SomeMoves, in_parts, in_parts_is, pieces_keep}
 use Rattle.nt_apart.proofs.Alike.{not_idle, set_strange, armed_strange, unarmed_strange, routine_strange, ends_fair, pieces_strange}
 use Rattle.nt_apart.proofs.PartsOfCalls.{AlikeFor, IsFrom, IsMade, are_known, on_reached, on_waiting, left_idle}

@@ -18,18 +18,14 @@ use Rattle.nt_calls.specs.State.{State, object_at, wait_names, pends, waits_over
 use Rattle.nt_calls.specs.Serving.{sequence}
 use Rattle.nt_calls.specs.Change.{at, handle_closed}
 use Rattle.nt_calls.specs.Steps.{Step}
-use Rattle.nt_apart.specs.Apart.{IsQuiet}
-use Rattle.nt_apart.specs.Reach.{signals_one, signaled_one, IsInReach}
-use Rattle.nt_apart.specs.Apcs.{queues_one}
-use Rattle.nt_apart.specs.Timers.{times_one, timed_one}
+use Rattle.nt_apart.specs.Apart.{IsQuiet, signals_one, signaled_one, IsInReach, queues_one, times_one, timed_one}
 use Rattle.nt_apart.specs.Footprint.{closes_one, fires_one, belongs, ends_with, SignalsFirst, WaitsFor, TouchesObject, TouchesThread}
 use Rattle.nt_apart.proofs.Waiting.{none_changed}
 use Rattle.nt_apart.proofs.Pieces.{Piece, Alters, Ends, made, all_made, idle_along, alerted_before}
 use Rattle.nt_apart.proofs.Reach.{AreOf, is_named, change_agree, IsBeside, only_one}
 use Rattle.nt_apart.proofs.Signals.{signaling, signal_step, make_signal, pieces_in, whole, whole_of, whole_is, moved}
 use Rattle.nt_apart.proofs.Apcs.{with_apc, asked_apc, over_pended, over_served, over_calm, only_target, alerted_alike, IsApcStep, apc_step, make_apc, apc_of}
-use Rattle.nt_apart.proofs.Timers.{IsQuietTo, IsQuietStep, quiet_step, make_quiet, timed, setting, done_is, quiet_to}
-use Rattle.nt_apart.proofs.TimersBeside.{numbers_for}
+use Rattle.nt_apart.proofs.Timers.{IsQuietTo, IsQuietStep, quiet_step, make_quiet, timed, setting, done_is, quiet_to, numbers_for}
 use Rattle.nt_apart.proofs.Parts.{Part, Changes, Hands, Leaves, Posts, Withdraws, Closes, AllKeep, AllFair, AllStrange, all_done, SomeOnObject, SomeOnThread, SomeMoves, in_parts, pieces_keep, in_parts_is}
 use Rattle.nt_apart.proofs.Alike.{Alike, AreIdle, pieces_strange, ends_fair, whole_fair, setting_strange}
 

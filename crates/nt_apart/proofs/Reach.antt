@@ -13,7 +13,7 @@ use Rattle.nt_calls.specs.declared.call.Grant.{Grant}
 use Rattle.nt_calls.specs.State.{State, object_at, with_object, wait_names, pends}
 use Rattle.nt_calls.specs.Serving.{is_ready, is_sleep, fits, satisfied, is_due, IsDue, take_at, take_each, wait_granted, Grants, IsServed}
 use Rattle.nt_calls.specs.Change.{at}
-use Rattle.nt_apart.specs.Reach.{IsInReach, ReachNothingInCommon}
+use Rattle.nt_apart.specs.Apart.{IsInReach, ReachNothingInCommon}
 use Rattle.nt_apart.proofs.Quiet.{neither, fits_other}
 use Rattle.nt_apart.proofs.Waking.{find_same}
 use Rattle.nt_apart.proofs.Waits.{fits_agree, status_agree, picked, takes_is, picked_named, picked_agree, named_is}

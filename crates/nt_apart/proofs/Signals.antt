@@ -16,8 +16,7 @@ use Rattle.nt_calls.specs.State.{State, object_at, with_object}
 use Rattle.nt_calls.specs.Serving.{is_ready, Grants, IsServed, Serve, Alert, IsAlerted, IsChanged, sequence}
 use Rattle.nt_calls.specs.Change.{at, change, act_reply}
 use Rattle.nt_calls.specs.Steps.{Step, after_serving}
-use Rattle.nt_apart.specs.Apart.{StepsGoOtherwise}
-use Rattle.nt_apart.specs.Reach.{signals_one, signaled_one, ReachNothingInCommon, AreStepsThatWake}
+use Rattle.nt_apart.specs.Apart.{StepsGoOtherwise, signals_one, signaled_one, ReachNothingInCommon, AreStepsThatWake}
 use Rattle.nt_apart.proofs.Quiet.{alert_none, none_to_alert, changed_along, rising_along}
 use Rattle.nt_apart.proofs.Pieces.{Piece, Alters, all_made, all_made_append, lists_commute, long_along, pended, alerted_before, queue_along, find_flat}
 use Rattle.nt_apart.proofs.Reach.{AreOf, are_append, reached, pieces_of, source_is, IsBeside, beside_back, beside_itself, due_beside, AlikeInBoth, granted_beside, only_one, left_alone, begins_beside}

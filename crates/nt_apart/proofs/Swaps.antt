@@ -19,10 +19,7 @@ use Rattle.nt_calls.specs.State.{State, object_at, wait_names, pends}
 use Rattle.nt_calls.specs.Serving.{Serve, Alert, IsChanged, sequence}
 use Rattle.nt_calls.specs.Change.{at, change, act_reply, signal}
 use Rattle.nt_calls.specs.Steps.{Step, after_serving, begun, asked_wait}
-use Rattle.nt_apart.specs.Apart.{IsQuiet}
-use Rattle.nt_apart.specs.Reach.{signals_one, signaled_one, IsInReach}
-use Rattle.nt_apart.specs.Apcs.{queues_one}
-use Rattle.nt_apart.specs.Timers.{times_one}
+use Rattle.nt_apart.specs.Apart.{IsQuiet, signals_one, signaled_one, IsInReach, queues_one, times_one}
 use Rattle.nt_apart.specs.Footprint.{takes_apc, fires_one, WaitsFor, TouchesObject, TouchesThread}
 use Rattle.nt_apart.proofs.Waiting.{wait_step, make_wait}
 use Rattle.nt_apart.proofs.Pieces.{Piece, Alters, Ends, made, all_made, long_each, long_along, idle_along, queue_along, find_flat}

@@ -43,6 +43,9 @@ beside s t h w ms f free =
     go false false true fit = refl
     go false false false fit = refl
 
+pub beside_both : (s : State) (t h : ℕ) (w : Wait) (ms : ℕ) (f : Object → Object) → wait_names w h ≡ false → ((begun (at s h f) t w ms).0 ≡ (begun s t w ms).0) × ((begun (at s h f) t w ms).1 ≡ at (begun s t w ms).1 h f)
+beside_both s t h w ms f free = let e = beside s t h w ms f free in (ap (λ (x : Reply × State). x.0) e, ap (λ (x : Reply × State). x.1) e)
+
 -- ---- the step of a call that only waits
 
 wait_unchanged : (s : State) (u : ℕ) (wait : WaitCall) → only_waits wait ≡ true → change s u (Call.Wait wait) ≡ s

@@ -1,5 +1,5 @@
--- Which two calls touch nothing in common, and that these commute.
-use Rattle.std.specs.Prelude.{Contains, ◌≡◌, ◌≢◌, ℕ, Bool, true, false, List, Some, Ok}
+-- Two calls that touch nothing in common, kind by kind, and that these commute.
+use Rattle.std.specs.Prelude.{Contains, ◌≡◌, ◌≢◌, ℕ, Bool, true, false, List, Some, Ok, ◌⊎◌, not, nat_le}
 use Rattle.std.specs.FinMap.{get}
 use Rattle.nt_objects.specs.declared.object.Object.{Object}
 use Rattle.nt_waits.specs.declared.wait.Wait.{Wait}
@@ -10,7 +10,7 @@ use Rattle.nt_calls.specs.declared.call.Reply.{Reply}
 use Rattle.nt_calls.specs.declared.call.Grant.{Grant}
 use Rattle.nt_calls.specs.State.{State, wait_names}
 use Rattle.nt_calls.specs.Serving.{IsServed, IsAlerted}
-use Rattle.nt_calls.specs.Change.{at}
+use Rattle.nt_calls.specs.Change.{at, due_moment}
 use Rattle.nt_calls.specs.Living.{LivesWhileKept}
 use Rattle.nt_calls.specs.Naming.{act_named}
 use Rattle.nt_calls.specs.Steps.{Step, Called, begun, asked_wait}
@@ -165,3 +165,175 @@ WaitsCommuteWithChanges =
     (s mid new : State) (t u : ℕ) (a : Act) (wait : WaitCall) (ra rb : Reply) (ga gb : List Grant)
     → AreChangeAndWait s mid new t u a wait ra rb ga gb
     → WaitGoesFirst s new t u a wait ra rb ga gb
+
+-- the act signals one object or unsets it, and touches all else only by the waits that it ends
+abbrev pub signals_one : Act → Bool
+signals_one (Act.SetEvent h) = true
+signals_one (Act.ResetEvent h) = true
+signals_one (Act.PulseEvent h) = true
+signals_one (Act.ReleaseSemaphore h n) = true
+signals_one (Act.ReleaseMutex h) = true
+signals_one _ = false
+
+-- the number of that object
+abbrev pub signaled_one : Act → ℕ
+signaled_one (Act.SetEvent h) = h
+signaled_one (Act.ResetEvent h) = h
+signaled_one (Act.PulseEvent h) = h
+signaled_one (Act.ReleaseSemaphore h n) = h
+signaled_one (Act.ReleaseMutex h) = h
+signaled_one _ = 0
+
+-- o is within reach of h: it is h, or some pending wait names both
+abbrev pub IsInReach : State → ℕ → ℕ → Type 0
+IsInReach s h o = (o ≡ h) ⊎ ((t : ℕ) × (w : Wait) × (get s.waits t ≡ Some w) × (wait_names w h ≡ true) × (wait_names w o ≡ true))
+
+-- o is not within reach of h
+abbrev pub IsOutOfReach : State → ℕ → ℕ → Type 0
+IsOutOfReach s h o = IsInReach s h o → ⊥
+
+-- no object is within reach of both
+abbrev pub ReachNothingInCommon : State → ℕ → ℕ → Type 0
+ReachNothingInCommon s h k = (o : ℕ) → IsInReach s h o → IsInReach s k o → ⊥
+
+-- two such acts are steps, one after the other, and each may end waits: no object is within reach of the objects of both
+pub record AreStepsThatWake (s mid new : State) (t u : ℕ) (a b : Act) (ra rb : Reply) (ga gb : List Grant) : Type 0 where
+  pub quiet : IsQuiet s
+  pub first_kind : signals_one a ≡ true
+  pub second_kind : signals_one b ≡ true
+  pub apart : ReachNothingInCommon s (signaled_one a) (signaled_one b)
+  pub first : Step s t (Call.Act a) ra ga mid
+  pub second : Step mid u (Call.Act b) rb gb new
+
+-- such steps commute
+abbrev pub SignalsCommute : Type 0
+SignalsCommute =
+    (s mid new : State) (t u : ℕ) (a b : Act) (ra rb : Reply) (ga gb : List Grant)
+    → AreStepsThatWake s mid new t u a b ra rb ga gb
+    → StepsGoOtherwise s new t u a b ra rb ga gb
+
+-- the act queues an APC to a thread
+abbrev pub queues_one : Act → Bool
+queues_one (Act.QueueApc h routine arg) = true
+queues_one _ = false
+
+-- the number of that thread
+abbrev pub queued_to : Act → ℕ
+queued_to (Act.QueueApc h routine arg) = h
+queued_to _ = 0
+
+-- two such acts are steps, one after the other, to two threads; each may end the wait of its thread
+pub record AreApcsToTwoThreads (s mid new : State) (t u : ℕ) (a b : Act) (ra rb : Reply) (ga gb : List Grant) : Type 0 where
+  pub quiet : IsQuiet s
+  pub first_kind : queues_one a ≡ true
+  pub second_kind : queues_one b ≡ true
+  pub differ : queued_to a ≢ queued_to b
+  pub first : Step s t (Call.Act a) ra ga mid
+  pub second : Step mid u (Call.Act b) rb gb new
+
+-- such steps commute
+abbrev pub ApcsToTwoThreadsCommute : Type 0
+ApcsToTwoThreadsCommute =
+    (s mid new : State) (t u : ℕ) (a b : Act) (ra rb : Reply) (ga gb : List Grant)
+    → AreApcsToTwoThreads s mid new t u a b ra rb ga gb
+    → StepsGoOtherwise s new t u a b ra rb ga gb
+
+-- ---- beside an act that may end waits of other threads
+
+-- no wait of thread k pends that names object h
+abbrev pub WaitsNotFor : State → ℕ → ℕ → Type 0
+WaitsNotFor s k h = (w : Wait) → get s.waits k ≡ Some w → wait_names w h ≡ false
+
+-- an act on one object is a step, and then an APC is queued to a thread that does not wait for that object
+pub record AreSignalAndApc (s mid new : State) (t u : ℕ) (a b : Act) (ra rb : Reply) (ga gb : List Grant) : Type 0 where
+  pub quiet : IsQuiet s
+  pub first_kind : signals_one a ≡ true
+  pub second_kind : queues_one b ≡ true
+  pub apart : WaitsNotFor s (queued_to b) (signaled_one a)
+  pub first : Step s t (Call.Act a) ra ga mid
+  pub second : Step mid u (Call.Act b) rb gb new
+
+-- such steps commute
+abbrev pub SignalsCommuteWithApcs : Type 0
+SignalsCommuteWithApcs =
+    (s mid new : State) (t u : ℕ) (a b : Act) (ra rb : Reply) (ga gb : List Grant)
+    → AreSignalAndApc s mid new t u a b ra rb ga gb
+    → StepsGoOtherwise s new t u a b ra rb ga gb
+
+-- the APC is queued first, and then the act is a step
+pub record AreApcAndSignal (s mid new : State) (t u : ℕ) (b a : Act) (rb ra : Reply) (gb ga : List Grant) : Type 0 where
+  pub quiet : IsQuiet s
+  pub first_kind : queues_one b ≡ true
+  pub second_kind : signals_one a ≡ true
+  pub apart : WaitsNotFor s (queued_to b) (signaled_one a)
+  pub first : Step s t (Call.Act b) rb gb mid
+  pub second : Step mid u (Call.Act a) ra ga new
+
+-- such steps commute too
+abbrev pub ApcsCommuteWithSignals : Type 0
+ApcsCommuteWithSignals =
+    (s mid new : State) (t u : ℕ) (b a : Act) (rb ra : Reply) (gb ga : List Grant)
+    → AreApcAndSignal s mid new t u b a rb ra gb ga
+    → StepsGoOtherwise s new t u b a rb ra gb ga
+
+-- at this moment the act sets a timer for a later one, or cancels a timer
+abbrev pub times_one : ℕ → Act → Bool
+times_one now (Act.SetTimer h due period routine) = not (nat_le (due_moment now due) now)
+times_one now (Act.CancelTimer h) = true
+times_one now _ = false
+
+-- the number of that timer
+abbrev pub timed_one : Act → ℕ
+timed_one (Act.SetTimer h due period routine) = h
+timed_one (Act.CancelTimer h) = h
+timed_one _ = 0
+
+-- two such acts are steps, one after the other, on two timers; waits for these may pend, and their APCs be queued
+pub record AreStepsOnTwoTimers (s mid new : State) (t u : ℕ) (a b : Act) (ra rb : Reply) (ga gb : List Grant) : Type 0 where
+  pub quiet : IsQuiet s
+  pub first_kind : times_one s.now a ≡ true
+  pub second_kind : times_one s.now b ≡ true
+  pub differ : timed_one a ≢ timed_one b
+  pub first : Step s t (Call.Act a) ra ga mid
+  pub second : Step mid u (Call.Act b) rb gb new
+
+-- such steps commute
+abbrev pub TwoTimersCommute : Type 0
+TwoTimersCommute =
+    (s mid new : State) (t u : ℕ) (a b : Act) (ra rb : Reply) (ga gb : List Grant)
+    → AreStepsOnTwoTimers s mid new t u a b ra rb ga gb
+    → StepsGoOtherwise s new t u a b ra rb ga gb
+
+-- ---- beside an act that may end waits
+
+-- an act on one object is a step, and then a timer is set for later or cancelled that is not within reach of that object
+pub record AreSignalAndTimer (s mid new : State) (t u : ℕ) (a b : Act) (ra rb : Reply) (ga gb : List Grant) : Type 0 where
+  pub quiet : IsQuiet s
+  pub first_kind : signals_one a ≡ true
+  pub second_kind : times_one s.now b ≡ true
+  pub apart : IsOutOfReach s (signaled_one a) (timed_one b)
+  pub first : Step s t (Call.Act a) ra ga mid
+  pub second : Step mid u (Call.Act b) rb gb new
+
+-- such steps commute
+abbrev pub SignalsCommuteWithTimers : Type 0
+SignalsCommuteWithTimers =
+    (s mid new : State) (t u : ℕ) (a b : Act) (ra rb : Reply) (ga gb : List Grant)
+    → AreSignalAndTimer s mid new t u a b ra rb ga gb
+    → StepsGoOtherwise s new t u a b ra rb ga gb
+
+-- the timer is set or cancelled first, and then the act is a step
+pub record AreTimerAndSignal (s mid new : State) (t u : ℕ) (b a : Act) (rb ra : Reply) (gb ga : List Grant) : Type 0 where
+  pub quiet : IsQuiet s
+  pub first_kind : times_one s.now b ≡ true
+  pub second_kind : signals_one a ≡ true
+  pub apart : IsOutOfReach s (signaled_one a) (timed_one b)
+  pub first : Step s t (Call.Act b) rb gb mid
+  pub second : Step mid u (Call.Act a) ra ga new
+
+-- such steps commute too
+abbrev pub TimersCommuteWithSignals : Type 0
+TimersCommuteWithSignals =
+    (s mid new : State) (t u : ℕ) (b a : Act) (rb ra : Reply) (gb ga : List Grant)
+    → AreTimerAndSignal s mid new t u b a rb ra gb ga
+    → StepsGoOtherwise s new t u b a rb ra gb ga

@@ -1,6 +1,25 @@
--- A search that leaves lanes out, and finds a shortest hang all the same.
-use Rattle.std.specs.Prelude.{Contains, ◌≡◌, ◌⊎◌, ◌≤◌, ℕ, Bool, true, List, [], ◌∷◌, length}
-use Rattle.nt_look.specs.Orders.{Plan, Point, Goes, Order, Hangs}
+-- A search that leaves lanes out, and finds a shortest hang all the same; and threads that stand alike, of which one is enough.
+use Rattle.std.specs.Prelude.{Contains, ◌≡◌, ◌⊎◌, ◌≤◌, ℕ, Bool, true, List, [], ◌∷◌, length, ◌<◌, false, map, drop, slice_index_or, option_map}
+use Rattle.nt_look.specs.Orders.{Plan, Point, Goes, Order, Hangs, Ask, Calls, Passes, place, asks}
+use Rattle.std.specs.FinMap.{get}
+use Rattle.std.specs.declared.option.Option.TheVariants.{None}
+use Rattle.std.specs.declared.result.Result.{Result}
+use Rattle.nt_status.specs.declared.limits.TheConstants.{MAX_HANDLES}
+use Rattle.nt_status.specs.declared.refusal.Refusal.{Refusal}
+use Rattle.nt_objects.specs.declared.object.Object.{Object}
+use Rattle.nt_objects.specs.declared.object.Object.TheVariants.{Mutex, Timer, Thread, Gone}
+use Rattle.nt_objects.specs.declared.object.Armed.{Armed}
+use Rattle.nt_objects.specs.declared.object.Routine.{Routine}
+use Rattle.nt_tables.specs.declared.handles.Opened.{Opened}
+use Rattle.nt_waits.specs.declared.wait.Wait.{Wait}
+use Rattle.nt_apc.specs.declared.apc.Queued.{Queued}
+use Rattle.nt_calls.specs.declared.call.Call.{Call}
+use Rattle.nt_calls.specs.declared.call.Act.{Act}
+use Rattle.nt_calls.specs.declared.call.WaitCall.{WaitCall}
+use Rattle.nt_calls.specs.declared.call.Reply.{Reply}
+use Rattle.nt_calls.specs.declared.call.Grant.{Grant}
+use Rattle.nt_calls.specs.State.{State, object_at}
+use Rattle.nt_calls.specs.Steps.{Called, Ticked}
 
 -- one of the chosen lanes goes, and then as many lanes come to a hang
 pub record MayBegin (plan : Plan) (p : Point) (chosen : ℕ → Bool) (lanes : List ℕ) : Type 0 where
@@ -48,3 +67,161 @@ FewerLanesAreEnough =
     → IsEnoughSearch plan chosen met start
     → (lanes : List ℕ) (q : Point) → Order plan start lanes q → Hangs plan q
     → IsMetAsSoon plan chosen met start lanes
+
+-- ---- names
+
+-- it renames the first n numbers, those of the threads, among themselves, each other number stays, and to rename twice changes nothing
+pub record IsRenaming (n : ℕ) (r : ℕ → ℕ) : Type 0 where
+  pub back : (x : ℕ) → r (r x) ≡ x
+  pub inside : (x : ℕ) → x < n → r x < n
+  pub outside : (x : ℕ) → n ≤ x → r x ≡ x
+
+-- ---- what is renamed in each part of the machine: threads, and the numbers of objects and handles, since a thread's own have its number
+
+abbrev pub renamed_routine : (ℕ → ℕ) → Routine → Routine
+renamed_routine r routine = record routine { thread = r routine.thread }
+
+abbrev pub renamed_armed : (ℕ → ℕ) → Armed → Armed
+renamed_armed r armed = record armed { routine = option_map (renamed_routine r) armed.routine }
+
+-- a mutex has an owner, and a timer's routine a thread
+abbrev pub renamed_object : (ℕ → ℕ) → Object → Object
+renamed_object r (Mutex owner depth abandoned) = Mutex (option_map r owner) depth abandoned
+renamed_object r (Timer manual set armed) = Timer manual set (option_map (renamed_armed r) armed)
+renamed_object r o = o
+
+abbrev pub renamed_opened : (ℕ → ℕ) → Opened → Opened
+renamed_opened r opened = record opened { object = r opened.object }
+
+abbrev pub renamed_wait : (ℕ → ℕ) → Wait → Wait
+renamed_wait r w = record w { objects = map r w.objects }
+
+abbrev pub renamed_apc : (ℕ → ℕ) → Queued → Queued
+renamed_apc r q = record q { timer = option_map r q.timer }
+
+abbrev pub renamed_act : (ℕ → ℕ) → Act → Act
+renamed_act r (Act.SetEvent h) = Act.SetEvent (r h)
+renamed_act r (Act.ResetEvent h) = Act.ResetEvent (r h)
+renamed_act r (Act.PulseEvent h) = Act.PulseEvent (r h)
+renamed_act r (Act.ReleaseSemaphore h n) = Act.ReleaseSemaphore (r h) n
+renamed_act r (Act.ReleaseMutex h) = Act.ReleaseMutex (r h)
+renamed_act r (Act.SetTimer h due period routine) = Act.SetTimer (r h) due period routine
+renamed_act r (Act.CancelTimer h) = Act.CancelTimer (r h)
+renamed_act r (Act.QueueApc h routine arg) = Act.QueueApc (r h) routine arg
+renamed_act r (Act.Duplicate h access) = Act.Duplicate (r h) access
+renamed_act r (Act.Close h) = Act.Close (r h)
+renamed_act r act = act
+
+abbrev pub renamed_waiting : (ℕ → ℕ) → WaitCall → WaitCall
+renamed_waiting r (WaitCall.Objects all mode hs) = WaitCall.Objects all mode (map r hs)
+renamed_waiting r (WaitCall.Sleep mode) = WaitCall.Sleep mode
+renamed_waiting r (WaitCall.Swap h object mode) = WaitCall.Swap (r h) (r object) mode
+
+abbrev pub renamed_call : (ℕ → ℕ) → Call → Call
+renamed_call r (Call.Act act) = Call.Act (renamed_act r act)
+renamed_call r (Call.Wait wait) = Call.Wait (renamed_waiting r wait)
+renamed_call r Call.Exit = Call.Exit
+
+abbrev pub renamed_grant : (ℕ → ℕ) → Grant → Grant
+renamed_grant r g = record g { thread = r g.thread }
+
+-- the same grants, renamed: perhaps in another order, since waits that end by an APC or a deadline at one moment end by rising thread
+pub record AreGrantsRenamed (r : ℕ → ℕ) (grants renamed : List Grant) : Type 0 where
+  pub there : (g : Grant) → Contains grants g → Contains renamed (renamed_grant r g)
+  pub back : (g : Grant) → Contains renamed g → Contains grants (renamed_grant r g)
+
+-- ---- states
+
+-- a list by number has more than n entries, and the other list as many; the entry of each number stands there at the renamed number
+pub record AreMoved {A : Type 0} (n : ℕ) (r : ℕ → ℕ) (entry : A → A) (none : A) (xs ys : List A) : Type 0 where
+  pub enough : n ≤ length xs
+  pub count : length ys ≡ length xs
+  pub each : (x : ℕ) → slice_index_or ys (r x) none ≡ entry (slice_index_or xs x none)
+
+-- a thread's own object, or what is left of it
+abbrev pub is_own : Object → Bool
+is_own (Thread ended) = true
+is_own Gone = true
+is_own _ = false
+
+-- the state u is s with its threads renamed
+pub record IsRenamed (r : ℕ → ℕ) (s u : State) : Type 0 where
+  pub renaming : IsRenaming s.threads r
+  pub few : s.threads ≤ MAX_HANDLES
+  -- the first objects are the threads' own
+  pub own : (x : ℕ) → x < s.threads → is_own (object_at s.objects x) ≡ true
+  pub threads : u.threads ≡ s.threads
+  pub now : u.now ≡ s.now
+  pub handles : AreMoved s.threads r (option_map (renamed_opened r)) None s.handles u.handles
+  pub objects : AreMoved s.threads r (renamed_object r) (Thread false) s.objects u.objects
+  pub waits : (t : ℕ) → get u.waits (r t) ≡ option_map (renamed_wait r) (get s.waits t)
+  pub queues : (x : ℕ) → u.queues (r x) ≡ map r (s.queues x)
+  pub apcs : AreMoved s.threads r (map (renamed_apc r)) [] s.apcs u.apcs
+  pub handing : AreMoved s.threads r (λ may. may) false s.handing u.handing
+
+-- ---- the law
+
+-- what comes of a call or a tick in the renamed state: the same result, the same grants, renamed, and the renamed state
+pub record ComesRenamed (r : ℕ → ℕ) (comes : List Grant → State → Type 0) (grants : List Grant) (new : State) : Type 0 where
+  pub others : List Grant
+  pub state : State
+  pub made : comes others state
+  pub same : AreGrantsRenamed r grants others
+  pub is : IsRenamed r new state
+
+-- threads may be renamed in any state before a call: then it comes to the renamed state
+abbrev pub CallsOfRenamedThreads : Type 0
+CallsOfRenamedThreads =
+    (r : ℕ → ℕ) (s u new : State) (t : ℕ) (call : Call) (result : Result Reply Refusal) (grants : List Grant)
+    → IsRenamed r s u
+    → Called s t call result grants new
+    → ComesRenamed r (Called u (r t) (renamed_call r call) result) grants new
+
+-- or before a tick
+abbrev pub TicksOfRenamedThreads : Type 0
+TicksOfRenamedThreads =
+    (r : ℕ → ℕ) (s u new : State) (moment : ℕ) (result : Result Reply Refusal) (grants : List Grant)
+    → IsRenamed r s u
+    → Ticked s moment result grants new
+    → ComesRenamed r (Ticked u moment result) grants new
+
+-- ---- points of a search
+
+-- what a lane has left to do
+abbrev pub left : Plan → Point → ℕ → List Ask
+left plan p lane = drop (place p lane) (asks plan lane)
+
+abbrev pub renamed_ask : (ℕ → ℕ) → Ask → Ask
+renamed_ask r (Calls call) = Calls (renamed_call r call)
+renamed_ask r (Passes moment) = Passes moment
+
+-- the point q is p with its threads renamed: each lane has left there what the renamed lane has left here, renamed
+pub record IsPointRenamed (r : ℕ → ℕ) (plan : Plan) (p q : Point) : Type 0 where
+  pub inside : (lane : ℕ) → lane < length p.at → r lane < length p.at
+  pub count : length q.at ≡ length p.at
+  pub lanes : (lane : ℕ) → left plan q (r lane) ≡ map (renamed_ask r) (left plan p lane)
+  pub state : IsRenamed r p.state q.state
+
+-- as many lanes, renamed, go from the renamed point to one that is renamed too; where a wait hangs in the one, one hangs in the other
+pub record GoRenamed (r : ℕ → ℕ) (plan : Plan) (start : Point) (lanes : List ℕ) (end : Point) : Type 0 where
+  pub point : Point
+  pub order : Order plan start (map r lanes) point
+  pub is : IsPointRenamed r plan end point
+  pub hangs : Hangs plan end → Hangs plan point
+
+-- from renamed points on each order has its image
+abbrev pub OrdersOfRenamedThreads : Type 0
+OrdersOfRenamedThreads =
+    (r : ℕ → ℕ) (plan : Plan) (p q end : Point) (lanes : List ℕ)
+    → IsPointRenamed r plan p q
+    → Order plan p lanes end
+    → GoRenamed r plan q lanes end
+
+-- threads stand alike where a renaming of them changes nothing of the point: each lane is chosen, or stands alike with one that is
+abbrev pub IsOneOfAlikeChosen : Plan → Point → (ℕ → Bool) → Type 0
+IsOneOfAlikeChosen plan p chosen =
+    (lane : ℕ) → (chosen lane ≡ true) ⊎ ((r : ℕ → ℕ) × (chosen (r lane) ≡ true) × IsPointRenamed r plan p p)
+
+-- then the chosen lanes are enough
+abbrev pub OneOfAlikeIsEnough : Type 0
+OneOfAlikeIsEnough = (plan : Plan) (p : Point) (chosen : ℕ → Bool) → IsOneOfAlikeChosen plan p chosen → AreEnough plan p chosen

@@ -15,10 +15,7 @@ use Rattle.nt_calls.specs.State.{State, object_at, wait_names, pends}
 use Rattle.nt_calls.specs.Change.{due_moment}
 use Rattle.nt_calls.specs.Living.{LivesWhileKept}
 use Rattle.nt_calls.specs.Steps.{Step, Called, asked_wait}
-use Rattle.nt_apart.specs.Apart.{IsQuiet, CallsGoOtherwise}
-use Rattle.nt_apart.specs.Reach.{signals_one, signaled_one, IsInReach}
-use Rattle.nt_apart.specs.Apcs.{queues_one, queued_to}
-use Rattle.nt_apart.specs.Timers.{times_one, timed_one}
+use Rattle.nt_apart.specs.Apart.{IsQuiet, CallsGoOtherwise, signals_one, signaled_one, IsInReach, queues_one, queued_to, times_one, timed_one}
 
 -- ---- the footprint of a call
 

@@ -19,6 +19,8 @@
 //! | `signals_commute_with_timers`, `timers_commute_with_signals` | an act that may end waits, and a timer that is set for later or cancelled |
 //! | `steps_apart_commute` | any two steps but creations and duplicates, whose footprints have no object and no thread in common |
 //! | `two_closes_commute` | two handles that are closed, as whole calls, with the objects that end |
+//! | `calls_of_renamed_threads`, `ticks_of_renamed_threads` | any call or tick, where threads are renamed, as by exchanging two |
+//! | `one_of_alike_is_enough` | orders of renamed threads have images that hang alike, and of threads that stand alike one is enough |
 //! | `fewer_lanes_are_enough` | a search that leaves lanes out meets a shortest hang, if the lanes that it tries are enough |
 //!
 //! A law is the contract of a function that takes nothing and does nothing, as in `nt_laws`.
@@ -27,7 +29,10 @@
 mod lanes;
 mod steps;
 
-pub use lanes::fewer_lanes_are_enough;
+pub use lanes::{
+    calls_of_renamed_threads, fewer_lanes_are_enough, one_of_alike_is_enough,
+    ticks_of_renamed_threads,
+};
 pub use steps::{
     apcs_commute_with_signals, apcs_to_two_threads_commute, calls_on_two_objects_commute,
     changes_of_two_objects_commute, signals_commute, signals_commute_with_apcs,

@@ -1,8 +1,5 @@
 //! Steps of two threads that commute.
-ghost use Rattle.nt_apart.specs.Apart.{ChangesOfTwoObjectsCommute, CallsOnTwoObjectsCommute, WakingCommutes, WaitsBeginInEitherOrder, WaitsBeginBesideChanges, WaitsCommuteWithChanges};
-ghost use Rattle.nt_apart.specs.Reach.{SignalsCommute};
-ghost use Rattle.nt_apart.specs.Apcs.{ApcsToTwoThreadsCommute, SignalsCommuteWithApcs, ApcsCommuteWithSignals};
-ghost use Rattle.nt_apart.specs.Timers.{TwoTimersCommute, SignalsCommuteWithTimers, TimersCommuteWithSignals};
+ghost use Rattle.nt_apart.specs.Apart.{ChangesOfTwoObjectsCommute, CallsOnTwoObjectsCommute, WakingCommutes, WaitsBeginInEitherOrder, WaitsBeginBesideChanges, WaitsCommuteWithChanges, SignalsCommute, ApcsToTwoThreadsCommute, SignalsCommuteWithApcs, ApcsCommuteWithSignals, TwoTimersCommute, SignalsCommuteWithTimers, TimersCommuteWithSignals};
 ghost use Rattle.nt_apart.specs.Footprint.{StepsApartCommute, TwoClosesCommute};
 
 /// Two acts that change one object each, not the same, that no pending wait names, may be made in either order: the replies are the same, no
@@ -30,11 +27,13 @@ pub fn signals_commute()
 
 /// Waits of two threads that name no object in common begin in either order: each is over at once or pends as it would alone, with the same
 /// status, and the state after both is the same.
+#[tactic(auto, using(crate::proofs::Waits::two_waits))]
 pub fn waits_begin_in_either_order()
     ensures { WaitsBeginInEitherOrder }
 {}
 
 /// A wait begins before or after the change of an object that it does not name, with the same answer and the same state after both.
+#[tactic(auto, using(crate::proofs::Waiting::beside_both))]
 pub fn waits_begin_beside_changes()
     ensures { WaitsBeginBesideChanges }
 {}

@@ -1,4 +1,4 @@
-use Rattle.nt_apart.proofs.TimersBeside.{signal_and_timer}
+use Rattle.nt_apart.proofs.Timers.{signal_and_timer}
 use Rattle.nt_apart.proofs.steps.signals_commute_with_timers.Goals as goal
 
 pub returns : goal.returns

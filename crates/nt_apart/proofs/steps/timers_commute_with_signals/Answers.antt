@@ -1,4 +1,4 @@
-use Rattle.nt_apart.proofs.TimersBeside.{timer_and_signal}
+use Rattle.nt_apart.proofs.Timers.{timer_and_signal}
 use Rattle.nt_apart.proofs.steps.timers_commute_with_signals.Goals as goal
 
 pub returns : goal.returns

@@ -1,4 +1,4 @@
-use Rattle.nt_apart.proofs.Closing.{two_closes}
+use Rattle.nt_apart.proofs.Footprint.{two_closes}
 use Rattle.nt_apart.proofs.steps.two_closes_commute.Goals as goal
 
 pub returns : goal.returns

@@ -1,0 +1,8 @@
+use Rattle.nt_apart.proofs.Fewer.{orders_renamed, one_is_enough}
+use Rattle.nt_apart.proofs.lanes.one_of_alike_is_enough.Goals as goal
+
+pub returns-clause-images : goal.returns-clause-images
+returns-clause-images c = orders_renamed
+
+pub returns-clause-enough : goal.returns-clause-enough
+returns-clause-enough c = one_is_enough
