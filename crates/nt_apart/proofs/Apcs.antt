@@ -22,7 +22,7 @@ use Rattle.nt_calls.specs.Serving.{satisfied, IsServed, Alert, IsAlerted, ending
 use Rattle.nt_calls.specs.Steps.{Step}
 use Rattle.nt_apart.specs.Apart.{StepsGoOtherwise, queues_one, AreApcsToTwoThreads}
 use Rattle.nt_apart.proofs.Quiet.{serve_none, rising_along}
-use Rattle.nt_apart.proofs.Waiting.{none_changed}
+use Rattle.nt_apart.proofs.Unawaited.{none_changed}
 use Rattle.nt_apart.proofs.Pieces.{remove_comm, others_comm}
 use Rattle.std.proofs.Math.Path.{fun_ext}
 use Rattle.nt_waits.specs.Waits.{others}

@@ -27,8 +27,7 @@ use Rattle.nt_calls.specs.Naming.{object_in, object_named}
 use Rattle.nt_calls.specs.Refusals.{refusal, first_of_causes}
 use Rattle.nt_calls.specs.Steps.{Called}
 use Rattle.nt_apart.specs.Apart.{IsQuiet}
-use Rattle.nt_apart.proofs.Waiting.{none_changed}
-use Rattle.nt_apart.proofs.Whole.{none_forgotten}
+use Rattle.nt_apart.proofs.Unawaited.{none_changed, none_forgotten}
 use Rattle.nt_apart.proofs.Timers.{IsQuietTo, IsQuietStep, quiet_step, make_quiet, calm_so, unready}
 use Rattle.nt_apart.proofs.Parts.{Part, Changes, Withdraws, Closes, all_done, closes_closes}
 

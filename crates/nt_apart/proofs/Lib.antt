@@ -1,9 +1,8 @@
 pub mod Quiet
-pub mod Whole
+pub mod Unawaited
 pub mod Waking
 pub mod Fewer
 pub mod Waits
-pub mod Waiting
 pub mod Pieces
 pub mod Reach
 pub mod Signals
@@ -26,3 +25,4 @@ pub mod RenamedChanges
 pub mod RenamedNumbers
 pub mod RenamedSteps
 pub mod RenamedRefusals
+pub mod Exchanging

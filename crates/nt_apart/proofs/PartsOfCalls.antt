@@ -20,7 +20,7 @@ use Rattle.nt_calls.specs.Change.{at, handle_closed}
 use Rattle.nt_calls.specs.Steps.{Step}
 use Rattle.nt_apart.specs.Apart.{IsQuiet, signals_one, signaled_one, IsInReach, queues_one, times_one, timed_one}
 use Rattle.nt_apart.specs.Footprint.{closes_one, fires_one, belongs, ends_with, SignalsFirst, WaitsFor, TouchesObject, TouchesThread}
-use Rattle.nt_apart.proofs.Waiting.{none_changed}
+use Rattle.nt_apart.proofs.Unawaited.{none_changed}
 use Rattle.nt_apart.proofs.Pieces.{Piece, Alters, Ends, made, all_made, idle_along, alerted_before}
 use Rattle.nt_apart.proofs.Reach.{AreOf, is_named, change_agree, IsBeside, only_one}
 use Rattle.nt_apart.proofs.Signals.{signaling, signal_step, make_signal, pieces_in, whole, whole_of, whole_is, moved}

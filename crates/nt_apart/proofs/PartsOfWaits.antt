@@ -15,7 +15,7 @@ use Rattle.nt_calls.specs.Serving.{fits, IsAlerted, IsChanged}
 use Rattle.nt_calls.specs.Steps.{Step, begun, asked_wait, timeout_of}
 use Rattle.nt_apart.specs.Apart.{only_waits, IsQuiet}
 use Rattle.nt_apart.proofs.Waits.{How, Takes, Rouses, TimesOut, Pends, how as how_by, how_of, came, answer, effect, begun_is, takes_if, takes_is, picked, picked_named, picked_agree, fits_agree, status_agree}
-use Rattle.nt_apart.proofs.Waiting.{wait_step, make_wait, quiet_begun, none_changed}
+use Rattle.nt_apart.proofs.Unawaited.{wait_step, make_wait, quiet_begun, none_changed}
 use Rattle.nt_apart.proofs.Reach.{is_named}
 use Rattle.nt_apart.proofs.Parts.{Part, Gets, Hands, Joins, AllKeep, AllStrange, all_done, SomeOnObject, SomeOnThread, SomeMoves, Drops}
 use Rattle.nt_apart.proofs.PartsOfCalls.{IsFrom, AlikeFor, IsMade}

@@ -17,7 +17,7 @@ use Rattle.nt_apart.specs.Apart.{IsInReach, ReachNothingInCommon}
 use Rattle.nt_apart.proofs.Quiet.{neither, fits_other}
 use Rattle.nt_apart.proofs.Waking.{find_same}
 use Rattle.nt_apart.proofs.Waits.{fits_agree, status_agree, picked, takes_is, picked_named, picked_agree, named_is}
-use Rattle.nt_apart.proofs.Waiting.{unready_each}
+use Rattle.nt_apart.proofs.Unawaited.{unready_each}
 use Rattle.nt_apart.proofs.Pieces.{Piece, Alters, Ends, made, all_made, Touches, SomeTouches, long_each, long_along, untouched, pended, idle_made}
 
 -- ---- what a step's pieces may touch

@@ -17,7 +17,7 @@ use Rattle.nt_calls.specs.declared.call.WaitCall.{WaitCall}
 use Rattle.nt_calls.specs.declared.call.Reply.{Reply}
 use Rattle.nt_calls.specs.State.{State, object_at, with_object, with_handing}
 use Rattle.nt_calls.specs.Change.{opened_too, handle_closed, created, notified, expired_as, expired, all_expired, due_moment, routine_for, armed_anew, timer_set, timer_cancelled, apc_queued, may_take, apc_taken, apc_answered, signal, exited, act_change, change, act_reply}
-use Rattle.nt_apart.specs.Fewer.{IsRenaming, AreMoved, IsRenamed, renamed_object, renamed_armed, renamed_routine, renamed_opened, renamed_apc, renamed_act, renamed_call, is_own}
+use Rattle.nt_apart.specs.Fewer.{IsRenaming, AreMoved, IsRenamed, renamed_object, renamed_armed, renamed_routine, renamed_opened, renamed_apc, renamed_act, renamed_call, is_own, renamed_wait, renamed_waiting}
 use Rattle.nt_apart.proofs.Renaming.{moved_set, moved_map, moved_last, get_front, get_map, same_test, lt_test}
 use Rattle.nt_apart.proofs.RenamedObjects.{AreObjects, both, setting, releasing, unlocking, signaling, arming, leaving, changed_objects, setting_renamed, kept_by}
 use Rattle.nt_apart.proofs.RenamedStates.{objects_of, with_objects, with_apcs, changed, handed, apcs_pushed, apcs_withdrawn, apcs_cleared, apcs_taken, queued_renamed, has_apc_renamed, any_moved}
@@ -25,6 +25,7 @@ use Rattle.std.specs.List.{list_any}
 use Rattle.std.proofs.lemmas.Bool.Decides.{nat_tests}
 use Rattle.nt_tables.specs.Handles.{names, count_named}
 use Rattle.nt_calls.specs.Living.{is_opened, is_awaited, runs, is_kept, lives, is_forgotten}
+use Rattle.nt_calls.specs.Steps.{asked_wait, timeout_of}
 
 -- ---- handles and new objects
 
@@ -297,3 +298,18 @@ lives_renamed r s u are o =
 
 pub forgotten_renamed : (r : ℕ → ℕ) (s u : State) → IsRenamed r s u → (o : ℕ) → is_forgotten u (r o) ≡ is_forgotten s o
 forgotten_renamed r s u are o = ap (λ (b : Bool). b && not (is_kept u (r o))) (lives_renamed r s u are o) ∙ ap (λ (b : Bool). lives s o && not b) (kept_renamed r s u are o)
+
+-- ---- what a call asks for
+
+pub asked_renamed : (r : ℕ → ℕ) (s u : State) → IsRenamed r s u → (wait : WaitCall) → asked_wait u.now (renamed_waiting r wait) ≡ renamed_wait r (asked_wait s.now wait)
+asked_renamed r s u are wait = ap (λ (now : ℕ). asked_wait now (renamed_waiting r wait)) are.now ∙ at wait
+  where
+    at : (wait : WaitCall) → asked_wait s.now (renamed_waiting r wait) ≡ renamed_wait r (asked_wait s.now wait)
+    at (WaitCall.Objects all mode named) = refl
+    at (WaitCall.Sleep mode) = refl
+    at (WaitCall.Swap h object mode) = refl
+
+pub timeout_renamed : (r : ℕ → ℕ) (wait : WaitCall) → timeout_of (renamed_waiting r wait) ≡ timeout_of wait
+timeout_renamed r (WaitCall.Objects all mode named) = refl
+timeout_renamed r (WaitCall.Sleep mode) = refl
+timeout_renamed r (WaitCall.Swap h object mode) = refl

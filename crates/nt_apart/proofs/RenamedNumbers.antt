@@ -17,7 +17,7 @@ use Rattle.nt_calls.specs.State.{State, object_at, with_object, with_handing}
 use Rattle.nt_calls.specs.Serving.{IsChanged}
 use Rattle.nt_calls.specs.Change.{expired_as, expired, armed_anew, timer_set, signal, exited, act_change, change, may_take, IsTimerDue}
 use Rattle.nt_apart.specs.Fewer.{IsRenaming, IsRenamed, renamed_object, renamed_routine, renamed_call, is_own, AreMoved, renamed_apc}
-use Rattle.nt_apart.proofs.Renaming.{get_front, get_map, lt_there, mapped_has, has_mapped, past, moved_map, renamed_order, among, among_renamed, rising_renamed}
+use Rattle.nt_apart.proofs.Renaming.{turned, get_front, get_map, lt_there, mapped_has, has_mapped, past, moved_map, renamed_order, among, among_renamed, rising_renamed}
 use Rattle.nt_apart.proofs.RenamedObjects.{due_renamed}
 use Rattle.nt_apart.proofs.RenamedChanges.{change_renamed, forgotten_renamed}
 use Rattle.std.specs.List.{filter}
@@ -250,16 +250,13 @@ gone_apcs [] s = whole s.apcs
     whole (l ∷ ls) = ap (λ (z : List Queued). z ∷ ls) (all l) ∙ ap (λ (zs : List (List Queued)). filter (λ (q : Queued). stays [] q.timer) l ∷ zs) (whole ls)
 gone_apcs (o ∷ os) s = gone_apcs os (gone s o) ∙ whole s.apcs
   where
-    swap : (x y : ℕ) → (x == y) ≡ (y == x)
-    swap x y = elim (cases_eq x y) [ inl same ↦ same_yes x y same ∙ sym (same_yes y x (sym same)) | inr differs ↦ same_no x y differs ∙ sym (same_no y x (λ e. differs (sym e))) ]
-
-    turned : (a b c : Bool) → a ≡ b → (not a && not c) ≡ not (b || c)
-    turned true b c e = ap (λ (z : Bool). not (z || c)) e
-    turned false b c e = ap (λ (z : Bool). not (z || c)) e
+    none_of : (a b c : Bool) → a ≡ b → (not a && not c) ≡ not (b || c)
+    none_of true b c e = ap (λ (z : Bool). not (z || c)) e
+    none_of false b c e = ap (λ (z : Bool). not (z || c)) e
 
     test : (o : ℕ) (os : List ℕ) (x : Option ℕ) → (not (is_from o x) && stays os x) ≡ stays (o ∷ os) x
     test o os None = refl
-    test o os (Some x) = turned (x == o) (o == x) (among os x) (swap x o)
+    test o os (Some x) = none_of (x == o) (o == x) (among os x) (turned x o)
 
     queue : (l : List Queued) → filter (λ (q : Queued). stays os q.timer) (without_from o l) ≡ filter (λ (q : Queued). stays (o ∷ os) q.timer) l
     queue [] = refl

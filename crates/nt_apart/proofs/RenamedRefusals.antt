@@ -29,7 +29,8 @@ use Rattle.nt_calls.specs.Refusals.{Cause, first_of_causes, is_full, is_unknown,
 use Rattle.nt_apart.specs.Fewer.{IsRenaming, IsRenamed, renamed_armed, renamed_opened, renamed_wait, renamed_act, renamed_waiting, renamed_call}
 use Rattle.nt_apart.proofs.Renaming.{same_test, le_test, any_renamed, length_map}
 use Rattle.nt_apart.proofs.RenamedObjects.{kept_by, owned_renamed, fits_renamed}
-use Rattle.nt_apart.proofs.RenamedStates.{objects_of, has_apc_renamed, asked_renamed, timeout_renamed}
+use Rattle.nt_apart.proofs.RenamedStates.{objects_of, has_apc_renamed}
+use Rattle.nt_apart.proofs.RenamedChanges.{asked_renamed, timeout_renamed}
 
 -- ---- what handles name
 

@@ -14,11 +14,9 @@ use Rattle.nt_calls.specs.declared.call.Grant.{Grant}
 use Rattle.nt_calls.specs.State.{State, Pending, with_object, wait_names, pending_too, pending_no_more, with_handing, wait_over, waits_over}
 use Rattle.nt_calls.specs.Serving.{fits, satisfied, is_due, taken_by, wait_granted, Grants, Serve, sequence, objects_taken}
 use Rattle.nt_calls.specs.Change.{at}
-use Rattle.nt_apart.specs.Fewer.{IsRenaming, AreMoved, IsRenamed, renamed_wait, renamed_apc, renamed_grant, renamed_waiting}
-use Rattle.nt_apart.proofs.Renaming.{same_test, tied_test, any_renamed, find_renamed, flat_renamed, map_append, moved_set, moved_map, tests_agree, lt_there, past, among}
+use Rattle.nt_apart.specs.Fewer.{IsRenaming, AreMoved, IsRenamed, renamed_wait, renamed_apc, renamed_grant}
+use Rattle.nt_apart.proofs.Renaming.{turned, same_test, tied_test, any_renamed, find_renamed, flat_renamed, map_append, moved_set, moved_map, tests_agree, lt_there, past, among}
 use Rattle.nt_apart.proofs.RenamedObjects.{AreObjects, IsFair, changed_objects, fits_renamed, status_renamed, taken_renamed}
-use Rattle.nt_calls.specs.declared.call.WaitCall.{WaitCall}
-use Rattle.nt_calls.specs.Steps.{asked_wait, timeout_of}
 use Rattle.std.proofs.lemmas.Bool.{cases_eq, cases_lt}
 use Rattle.std.proofs.lemmas.List.{length-set, get_or-set_other, get_or-set_same}
 use Rattle.nt_machine.proofs.Listing.{same_yes, same_no}
@@ -278,21 +276,6 @@ served_renamed r gs threads s u new are serve =
 pub sequence_renamed : (r : ℕ → ℕ) (s u : State) → IsRenamed r s u → (numbers : List ℕ) → sequence u (map r numbers) ≡ map r (sequence s numbers)
 sequence_renamed r s u are numbers = flat_renamed r s.queues u.queues are.queues numbers
 
--- ---- what a call asks for
-
-pub asked_renamed : (r : ℕ → ℕ) (s u : State) → IsRenamed r s u → (wait : WaitCall) → asked_wait u.now (renamed_waiting r wait) ≡ renamed_wait r (asked_wait s.now wait)
-asked_renamed r s u are wait = ap (λ (now : ℕ). asked_wait now (renamed_waiting r wait)) are.now ∙ at wait
-  where
-    at : (wait : WaitCall) → asked_wait s.now (renamed_waiting r wait) ≡ renamed_wait r (asked_wait s.now wait)
-    at (WaitCall.Objects all mode named) = refl
-    at (WaitCall.Sleep mode) = refl
-    at (WaitCall.Swap h object mode) = refl
-
-pub timeout_renamed : (r : ℕ → ℕ) (wait : WaitCall) → timeout_of (renamed_waiting r wait) ≡ timeout_of wait
-timeout_renamed r (WaitCall.Objects all mode named) = refl
-timeout_renamed r (WaitCall.Sleep mode) = refl
-timeout_renamed r (WaitCall.Swap h object mode) = refl
-
 -- ---- many waits over
 
 over_is : (ts : List ℕ) (s : State) (may : Bool) → waits_over s ts may ≡ record s { waits = (waits_over s ts may).waits; queues = (waits_over s ts may).queues; handing = (waits_over s ts may).handing }
@@ -307,9 +290,6 @@ over_wait (t ∷ ts) s may v =
     ∙ (ap (λ (b : Bool). cond (among ts v) None (cond b None (fin.get s.waits v))) (unsigned_tied v t ∙ turned v t)
     ∙ go (t == v) (among ts v)))
   where
-    turned : (x y : ℕ) → (x == y) ≡ (y == x)
-    turned x y = elim (cases_eq x y) [ inl same ↦ same_yes x y same ∙ sym (same_yes y x (sym same)) | inr differs ↦ same_no x y differs ∙ sym (same_no y x (λ e. differs (sym e))) ]
-
     go : (a b : Bool) → cond b None (cond a None (fin.get s.waits v)) ≡ cond (a || b) None (fin.get s.waits v)
     go true true = refl
     go true false = refl
@@ -321,9 +301,6 @@ kept_queue t ts [] = refl
 kept_queue t ts (x ∷ q) =
     ap (λ (b : Bool). filter (λ (y : ℕ). not (among ts y)) (if b then others t q else x ∷ others t q)) (turned x t) ∙ go (t == x) (among ts x) refl (kept_queue t ts q)
   where
-    turned : (x y : ℕ) → (x == y) ≡ (y == x)
-    turned x y = elim (cases_eq x y) [ inl same ↦ same_yes x y same ∙ sym (same_yes y x (sym same)) | inr differs ↦ same_no x y differs ∙ sym (same_no y x (λ e. differs (sym e))) ]
-
     go : (a b : Bool) → among ts x ≡ b → filter (λ (y : ℕ). not (among ts y)) (others t q) ≡ filter (λ (y : ℕ). not (among (t ∷ ts) y)) q
         → filter (λ (y : ℕ). not (among ts y)) (if a then others t q else x ∷ others t q)
         ≡ (if not (a || b) then x ∷ filter (λ (y : ℕ). not (among (t ∷ ts) y)) q else filter (λ (y : ℕ). not (among (t ∷ ts) y)) q)

@@ -16,9 +16,9 @@ use Rattle.nt_calls.specs.Change.{change, all_expired}
 use Rattle.nt_calls.specs.Steps.{begun, after_serving, answered, asked_wait, timeout_of, Step, IsAwaited, IsNextMoment, NothingDue, MomentPasses, MomentsPass, Made, Called, Ticked}
 use Rattle.nt_apart.specs.Fewer.{IsRenamed, AreGrantsRenamed, renamed_wait, renamed_waiting, renamed_call, renamed_grant, ComesRenamed}
 use Rattle.nt_apart.proofs.RenamedObjects.{fits_renamed, status_renamed, sleep_renamed, setting}
-use Rattle.nt_apart.proofs.RenamedStates.{objects_of, changed, handed, too, has_apc_renamed, taken_state, served_renamed, sequence_renamed, asked_renamed, timeout_renamed, over_renamed}
+use Rattle.nt_apart.proofs.RenamedStates.{objects_of, changed, handed, too, has_apc_renamed, taken_state, served_renamed, sequence_renamed, over_renamed}
+use Rattle.nt_apart.proofs.RenamedChanges.{asked_renamed, timeout_renamed, change_renamed, reply_renamed, all_expired_renamed}
 use Rattle.nt_apart.proofs.Renaming.{grants_mapped, past, renamed_order, among_renamed, rising_renamed, grants_in_order}
-use Rattle.nt_apart.proofs.RenamedChanges.{change_renamed, reply_renamed, all_expired_renamed}
 use Rattle.nt_apart.proofs.RenamedNumbers.{numbers_renamed, timers_renamed, due_there, due_back, ends_renamed}
 use Rattle.nt_status.specs.declared.refusal.Refusal.{Refusal}
 use Rattle.nt_calls.specs.Naming.{call_named}

@@ -20,6 +20,9 @@ tests_agree true b there back = sym (there refl)
 tests_agree false true there back = back refl
 tests_agree false false there back = refl
 
+pub turned : (x y : ℕ) → (x == y) ≡ (y == x)
+turned x y = elim (cases_eq x y) [ inl same ↦ same_yes x y same ∙ sym (same_yes y x (sym same)) | inr differs ↦ same_no x y differs ∙ sym (same_no y x (λ e. differs (sym e))) ]
+
 pub one_to_one : (n : ℕ) (r : ℕ → ℕ) → IsRenaming n r → (x y : ℕ) → r x ≡ r y → x ≡ y
 one_to_one n r ren x y e = sym (ren.back x) ∙ (ap (λ (z : ℕ). r z) e ∙ ren.back y)
 
@@ -295,7 +298,7 @@ member_test (y ∷ xs) x is = elim (cases_eq y x) [
   | inr differs ↦ contains_later y xs x (member_test xs x (sym (ap (λ (b : Bool). b || list_any (λ (z : ℕ). z == x) xs) (same_no y x differs)) ∙ is))
 ]
 
-test_member : (xs : List ℕ) (x : ℕ) → Contains xs x → list_any (λ (y : ℕ). y == x) xs ≡ true
+pub test_member : (xs : List ℕ) (x : ℕ) → Contains xs x → list_any (λ (y : ℕ). y == x) xs ≡ true
 test_member [] x has = absurd (contains_none x has)
 test_member (y ∷ xs) x has = elim (contains_cases y xs x has) [
   | inl same ↦ ap (λ (b : Bool). b || list_any (λ (z : ℕ). z == x) xs) (same_yes y x same)

@@ -21,7 +21,7 @@ use Rattle.nt_calls.specs.Change.{at, change, act_reply, signal}
 use Rattle.nt_calls.specs.Steps.{Step, after_serving, begun, asked_wait}
 use Rattle.nt_apart.specs.Apart.{IsQuiet, signals_one, signaled_one, IsInReach, queues_one, times_one}
 use Rattle.nt_apart.specs.Footprint.{takes_apc, fires_one, WaitsFor, TouchesObject, TouchesThread}
-use Rattle.nt_apart.proofs.Waiting.{wait_step, make_wait}
+use Rattle.nt_apart.proofs.Unawaited.{wait_step, make_wait}
 use Rattle.nt_apart.proofs.Pieces.{Piece, Alters, Ends, made, all_made, long_each, long_along, idle_along, queue_along, find_flat}
 use Rattle.nt_apart.proofs.Reach.{AreOf, change_agree, each_agree}
 use Rattle.nt_apart.proofs.Signals.{signaling}

@@ -1,8 +1,8 @@
 -- A search that leaves lanes out, and finds a shortest hang all the same; and threads that stand alike, of which one is enough.
-use Rattle.std.specs.Prelude.{Contains, ◌≡◌, ◌⊎◌, ◌≤◌, ℕ, Bool, true, List, [], ◌∷◌, length, ◌<◌, false, map, drop, slice_index_or, option_map}
+use Rattle.std.specs.Prelude.{Contains, ◌≡◌, ◌≢◌, ◌==◌, if◌then◌else◌, ◌⊎◌, ◌≤◌, ℕ, Bool, true, List, [], ◌∷◌, length, ◌<◌, false, map, drop, slice_index_or, option_map}
 use Rattle.nt_look.specs.Orders.{Plan, Point, Goes, Order, Hangs, Ask, Calls, Passes, place, asks}
 use Rattle.std.specs.FinMap.{get}
-use Rattle.std.specs.declared.option.Option.TheVariants.{None}
+use Rattle.std.specs.declared.option.Option.TheVariants.{None, Some}
 use Rattle.std.specs.declared.result.Result.{Result}
 use Rattle.nt_status.specs.declared.limits.TheConstants.{MAX_HANDLES}
 use Rattle.nt_status.specs.declared.refusal.Refusal.{Refusal}
@@ -11,6 +11,10 @@ use Rattle.nt_objects.specs.declared.object.Object.TheVariants.{Mutex, Timer, Th
 use Rattle.nt_objects.specs.declared.object.Armed.{Armed}
 use Rattle.nt_objects.specs.declared.object.Routine.{Routine}
 use Rattle.nt_tables.specs.declared.handles.Opened.{Opened}
+use Rattle.nt_tables.specs.Handles.{opened_at}
+use Rattle.nt_apc.specs.Queues.{apc_queue_of}
+use Rattle.nt_apart.specs.Apart.{IsUnawaited}
+use Rattle.nt_apart.specs.Footprint.{WaitsFor, belongs, has_apc_from}
 use Rattle.nt_waits.specs.declared.wait.Wait.{Wait}
 use Rattle.nt_apc.specs.declared.apc.Queued.{Queued}
 use Rattle.nt_calls.specs.declared.call.Call.{Call}
@@ -18,7 +22,7 @@ use Rattle.nt_calls.specs.declared.call.Act.{Act}
 use Rattle.nt_calls.specs.declared.call.WaitCall.{WaitCall}
 use Rattle.nt_calls.specs.declared.call.Reply.{Reply}
 use Rattle.nt_calls.specs.declared.call.Grant.{Grant}
-use Rattle.nt_calls.specs.State.{State, object_at}
+use Rattle.nt_calls.specs.State.{State, object_at, pends}
 use Rattle.nt_calls.specs.Steps.{Called, Ticked}
 
 -- one of the chosen lanes goes, and then as many lanes come to a hang
@@ -225,3 +229,63 @@ IsOneOfAlikeChosen plan p chosen =
 -- then the chosen lanes are enough
 abbrev pub OneOfAlikeIsEnough : Type 0
 OneOfAlikeIsEnough = (plan : Plan) (p : Point) (chosen : ℕ → Bool) → IsOneOfAlikeChosen plan p chosen → AreEnough plan p chosen
+
+-- ---- two threads that stand alike
+
+-- the renaming that exchanges a and b
+abbrev pub exchanged : ℕ → ℕ → ℕ → ℕ
+exchanged a b x = if x == a then b else if x == b then a else x
+
+-- the handles that a call names
+abbrev pub handles_of : Call → List ℕ
+handles_of (Call.Act (Act.SetEvent h)) = h ∷ []
+handles_of (Call.Act (Act.ResetEvent h)) = h ∷ []
+handles_of (Call.Act (Act.PulseEvent h)) = h ∷ []
+handles_of (Call.Act (Act.ReleaseSemaphore h n)) = h ∷ []
+handles_of (Call.Act (Act.ReleaseMutex h)) = h ∷ []
+handles_of (Call.Act (Act.SetTimer h due period routine)) = h ∷ []
+handles_of (Call.Act (Act.CancelTimer h)) = h ∷ []
+handles_of (Call.Act (Act.QueueApc h routine arg)) = h ∷ []
+handles_of (Call.Act (Act.Duplicate h access)) = h ∷ []
+handles_of (Call.Act (Act.Close h)) = h ∷ []
+handles_of (Call.Wait (WaitCall.Objects all mode hs)) = hs
+handles_of (Call.Wait (WaitCall.Swap h object mode)) = h ∷ object ∷ []
+handles_of _ = []
+
+-- what lasts of a state between calls: each thread has its places and its own object, and stands in a queue only where it waits
+pub record IsInOrder (s : State) : Type 0 where
+  pub few : s.threads ≤ MAX_HANDLES
+  pub handles : s.threads ≤ length s.handles
+  pub objects : s.threads ≤ length s.objects
+  pub apcs : s.threads ≤ length s.apcs
+  pub handing : s.threads ≤ length s.handing
+  pub own : (x : ℕ) → x < s.threads → is_own (object_at s.objects x) ≡ true
+  pub queued : (x t : ℕ) → Contains (s.queues x) t → WaitsFor s t x
+
+-- the thread waits for nothing and no wait names it; no mutex and no timer with a routine is its, no APC is queued to it, and no handle
+-- names it but its own. (No APC is a thread's, as it is no timer.)
+pub record IsBare (s : State) (t : ℕ) : Type 0 where
+  pub known : t < s.threads
+  pub idle : pends s t ≡ false
+  pub unawaited : IsUnawaited s t
+  pub free : (x : ℕ) → belongs t (object_at s.objects x) ≡ false
+  pub empty : apc_queue_of s.apcs t ≡ []
+  pub no_timer : (u : ℕ) → has_apc_from s u t ≡ false
+  pub named : (h : ℕ) (opened : Opened) → opened_at s.handles h ≡ Some opened → opened.object ≡ t → h ≡ t
+
+-- two such threads run, or both have ended; their own handles have the same rights, and so have they to take APCs; they have the same left to do,
+-- and no call that any thread has left to make names one of them
+pub record StandAlike (plan : Plan) (p : Point) (a b : ℕ) : Type 0 where
+  pub in_order : IsInOrder p.state
+  pub first : IsBare p.state a
+  pub second : IsBare p.state b
+  pub object : object_at p.state.objects b ≡ object_at p.state.objects a
+  pub handle : opened_at p.state.handles b ≡ option_map (renamed_opened (exchanged a b)) (opened_at p.state.handles a)
+  pub handing : slice_index_or p.state.handing b false ≡ slice_index_or p.state.handing a false
+  pub places : p.state.threads ≤ length p.at
+  pub lines : left plan p b ≡ left plan p a
+  pub unnamed : (lane : ℕ) (call : Call) (h : ℕ) → Contains (left plan p lane) (Calls call) → Contains (handles_of call) h → (h ≢ a) × (h ≢ b)
+
+-- to exchange these changes nothing
+abbrev pub ExchangeOfAlike : Type 0
+ExchangeOfAlike = (plan : Plan) (p : Point) (a b : ℕ) → StandAlike plan p a b → IsPointRenamed (exchanged a b) plan p p

@@ -33,7 +33,7 @@ pub fn waits_begin_in_either_order()
 {}
 
 /// A wait begins before or after the change of an object that it does not name, with the same answer and the same state after both.
-#[tactic(auto, using(crate::proofs::Waiting::beside_both))]
+#[tactic(auto, using(crate::proofs::Unawaited::beside_both))]
 pub fn waits_begin_beside_changes()
     ensures { WaitsBeginBesideChanges }
 {}

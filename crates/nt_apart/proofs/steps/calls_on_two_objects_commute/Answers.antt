@@ -1,4 +1,4 @@
-use Rattle.nt_apart.proofs.Whole.{two_calls}
+use Rattle.nt_apart.proofs.Unawaited.{two_calls}
 use Rattle.nt_apart.proofs.steps.calls_on_two_objects_commute.Goals as goal
 
 pub returns : goal.returns

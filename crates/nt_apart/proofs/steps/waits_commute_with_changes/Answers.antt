@@ -1,4 +1,4 @@
-use Rattle.nt_apart.proofs.Waiting.{change_and_wait}
+use Rattle.nt_apart.proofs.Unawaited.{change_and_wait}
 use Rattle.nt_apart.proofs.steps.waits_commute_with_changes.Goals as goal
 
 pub returns : goal.returns
