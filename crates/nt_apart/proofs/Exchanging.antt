@@ -1,5 +1,5 @@
 -- To exchange two threads that stand alike changes nothing.
-use Rattle.std.proofs.Common.{◌≡◌, ◌≢◌, ◌<◌, ◌≤◌, inl, inr, ℕ, Bool, true, false, ◌||◌, List, [], ◌∷◌, length, map, refl, sym, ap, ◌∙◌, subst, arith, Option, Some, None, is_some, Contains}
+use Rattle.std.proofs.Common.{◌≡◌, ◌≢◌, ◌<◌, ◌≤◌, inl, inr, ℕ, Bool, true, false, ◌||◌, List, [], ◌∷◌, length, map, refl, sym, ap, ◌∙◌, subst, arith, Option, Some, None, is_some, Contains, suc, zero, ◌⊎◌}
 use Rattle.std.specs.Prelude.{slice_index_or, ◌==◌, if◌then◌else◌, option_map}
 use Rattle.std.specs.List.{list_any}
 use Rattle.std.specs.FinMap as fin
@@ -18,10 +18,14 @@ use Rattle.nt_apc.specs.Queues.{apc_queue_of, is_from, has_from}
 use Rattle.nt_calls.specs.declared.call.Call.{Call}
 use Rattle.nt_calls.specs.declared.call.Act.{Act}
 use Rattle.nt_calls.specs.declared.call.WaitCall.{WaitCall}
-use Rattle.nt_calls.specs.State.{State, object_at}
+use Rattle.nt_calls.specs.State.{State, wait_names, object_at}
+use Rattle.nt_waits.specs.Waits.{Names}
+use Rattle.nt_objects.specs.Object.{is_thread, is_gone}
+use Rattle.nt_machine.specs.Dispatcher.{Dispatcher, state}
+use Rattle.nt_machine.specs.Lawful.{IsLawful}
 use Rattle.nt_look.specs.Orders.{Ask, Calls, Passes, Plan, Point}
 use Rattle.nt_apart.specs.Footprint.{belongs}
-use Rattle.nt_apart.specs.Fewer.{IsRenaming, AreMoved, IsRenamed, renamed_object, renamed_opened, renamed_wait, renamed_apc, renamed_call, left, renamed_ask, IsPointRenamed, exchanged, handles_of, IsInOrder, IsBare, StandAlike}
+use Rattle.nt_apart.specs.Fewer.{IsRenaming, AreMoved, IsRenamed, renamed_object, renamed_opened, renamed_wait, renamed_apc, renamed_call, left, renamed_ask, IsPointRenamed, is_own, exchanged, handles_of, IsInOrder, IsBare, StandAlike}
 use Rattle.nt_apart.proofs.Renaming.{lt_there, test_member}
 
 -- ---- the renaming
@@ -246,3 +250,40 @@ exchange_alike plan p a b alike = record {
       (λ apart also. ap (λ (z : ℕ). left plan p z) (other_to a b lane apart also) ∙ sym (lines_fixed plan p a b alike lane));
   state = state_alike plan p a b alike;
 }
+
+-- ---- lawful dispatchers
+
+own_object : (o : Object) → (is_thread o ≡ true) ⊎ (is_gone o ≡ true) → is_own o ≡ true
+own_object (Event manual set) is = absurd (elim is [ inl thread ↦ false≢true thread | inr gone ↦ false≢true gone ])
+own_object (Semaphore count maximum) is = absurd (elim is [ inl thread ↦ false≢true thread | inr gone ↦ false≢true gone ])
+own_object (Mutex owner depth abandoned) is = absurd (elim is [ inl thread ↦ false≢true thread | inr gone ↦ false≢true gone ])
+own_object (Timer manual set armed) is = absurd (elim is [ inl thread ↦ false≢true thread | inr gone ↦ false≢true gone ])
+own_object (Thread ended) is = refl
+own_object Gone is = refl
+
+as_many : (n count : ℕ) → ((t : ℕ) → t < n → t < count) → n ≤ count
+as_many zero count all = omega arith
+as_many (suc n) count all = let last = all n (omega arith) in omega (arith, last)
+
+-- in range it does not matter what stands beyond
+any_default : (xs : List ℕ) (i d e : ℕ) → i < length xs → slice_index_or xs i d ≡ slice_index_or xs i e
+any_default [] i d e less = absurd (omega (arith, less))
+any_default (x ∷ xs) zero d e less = refl
+any_default (x ∷ xs) (suc i) d e less = any_default xs i d e (omega (arith, less))
+
+named_so : (w : Wait) (o : ℕ) → Names w o → wait_names w o ≡ true
+named_so w o named = test_member w.objects o (named.0, named.1, any_default w.objects named.0 o 0 named.1 ∙ named.2)
+
+pub lawful_in_order : (d : Dispatcher) → IsLawful d → IsInOrder (state d)
+lawful_in_order d lawful =
+    let sound = lawful.steady.sound in
+    let objects = as_many d.threads (length d.objects) (λ t less. (sound.own t less).0) in
+    record {
+      few = let few = sound.few in omega (arith, few);
+      handles = let enough = sound.handles.enough in omega (arith, enough, objects);
+      objects = objects;
+      apcs = let same = sound.inboxes in omega (arith, same);
+      handing = let same = sound.hands in omega (arith, same);
+      own = λ x less. own_object (object_at d.objects x) (sound.own x less).1;
+      queued = λ x t has. let waits = sound.blocks.named t x has in (waits.0, waits.1, named_so waits.0 x waits.2);
+    }

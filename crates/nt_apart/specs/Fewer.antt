@@ -13,6 +13,8 @@ use Rattle.nt_objects.specs.declared.object.Routine.{Routine}
 use Rattle.nt_tables.specs.declared.handles.Opened.{Opened}
 use Rattle.nt_tables.specs.Handles.{opened_at}
 use Rattle.nt_apc.specs.Queues.{apc_queue_of}
+use Rattle.nt_machine.specs.Dispatcher.{Dispatcher, state}
+use Rattle.nt_machine.specs.Lawful.{IsLawful}
 use Rattle.nt_apart.specs.Apart.{IsUnawaited}
 use Rattle.nt_apart.specs.Footprint.{WaitsFor, belongs, has_apc_from}
 use Rattle.nt_waits.specs.declared.wait.Wait.{Wait}
@@ -289,3 +291,7 @@ pub record StandAlike (plan : Plan) (p : Point) (a b : ℕ) : Type 0 where
 -- to exchange these changes nothing
 abbrev pub ExchangeOfAlike : Type 0
 ExchangeOfAlike = (plan : Plan) (p : Point) (a b : ℕ) → StandAlike plan p a b → IsPointRenamed (exchanged a b) plan p p
+
+-- the states of a dispatcher are in order
+abbrev pub LawfulIsInOrder : Type 0
+LawfulIsInOrder = (d : Dispatcher) → IsLawful d → IsInOrder (state d)

@@ -1,5 +1,5 @@
 //! Searches that leave lanes out, and threads that stand alike.
-ghost use Rattle.nt_apart.specs.Fewer.{FewerLanesAreEnough, CallsOfRenamedThreads, TicksOfRenamedThreads, OrdersOfRenamedThreads, OneOfAlikeIsEnough, ExchangeOfAlike};
+ghost use Rattle.nt_apart.specs.Fewer.{FewerLanesAreEnough, CallsOfRenamedThreads, TicksOfRenamedThreads, OrdersOfRenamedThreads, OneOfAlikeIsEnough, ExchangeOfAlike, LawfulIsInOrder};
 
 /// A search that leaves lanes out finds a hang wherever one is, and a shortest one first, if in each of its states the chosen lanes are
 /// enough: each order to a hang may as well begin with one of them.
@@ -22,10 +22,11 @@ pub fn ticks_of_renamed_threads()
 {}
 
 /// Two threads stand alike where they have the same left to do, wait for nothing, own nothing and are named by no call that is left: to exchange
-/// them changes nothing of the point. From renamed points each order has its image, of as many steps, and comes to a hang where that does. So of
-/// threads that stand alike one is enough: each order to a hang may as well begin with it.
+/// them changes nothing of the point, and the states of dispatchers are such as this asks for. From renamed points each order has its image, of as
+/// many steps, and comes to a hang where that does. So of threads that stand alike one is enough: each order to a hang may as well begin with it.
 pub fn one_of_alike_is_enough()
     ensures exchange { ExchangeOfAlike }
+    ensures orderly { LawfulIsInOrder }
     ensures images { OrdersOfRenamedThreads }
     ensures enough { OneOfAlikeIsEnough }
 {}
