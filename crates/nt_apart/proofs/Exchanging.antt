@@ -37,7 +37,7 @@ other_to : (a b x : ℕ) → x ≢ a → x ≢ b → exchanged a b x ≡ x
 other_to a b x one two =
     ap (λ (c : Bool). if c then b else if x == b then a else x) (same_no x a one) ∙ ap (λ (c : Bool). if c then a else x) (same_no x b two)
 
-second_to : (a b : ℕ) → exchanged a b b ≡ a
+pub second_to : (a b : ℕ) → exchanged a b b ≡ a
 second_to a b = elim (cases_eq b a) [
   | inl same ↦ ap (λ (c : Bool). if c then b else if b == b then a else b) (same_yes b a same) ∙ same
   | inr differs ↦ ap (λ (c : Bool). if c then b else if b == b then a else b) (same_no b a differs) ∙ ap (λ (c : Bool). if c then a else b) (same_yes b b refl)

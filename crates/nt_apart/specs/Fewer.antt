@@ -223,15 +223,6 @@ OrdersOfRenamedThreads =
     → Order plan p lanes end
     → GoRenamed r plan q lanes end
 
--- threads stand alike where a renaming of them changes nothing of the point: each lane is chosen, or stands alike with one that is
-abbrev pub IsOneOfAlikeChosen : Plan → Point → (ℕ → Bool) → Type 0
-IsOneOfAlikeChosen plan p chosen =
-    (lane : ℕ) → (chosen lane ≡ true) ⊎ ((r : ℕ → ℕ) × (chosen (r lane) ≡ true) × IsPointRenamed r plan p p)
-
--- then the chosen lanes are enough
-abbrev pub OneOfAlikeIsEnough : Type 0
-OneOfAlikeIsEnough = (plan : Plan) (p : Point) (chosen : ℕ → Bool) → IsOneOfAlikeChosen plan p chosen → AreEnough plan p chosen
-
 -- ---- two threads that stand alike
 
 -- the renaming that exchanges a and b
@@ -291,6 +282,14 @@ pub record StandAlike (plan : Plan) (p : Point) (a b : ℕ) : Type 0 where
 -- to exchange these changes nothing
 abbrev pub ExchangeOfAlike : Type 0
 ExchangeOfAlike = (plan : Plan) (p : Point) (a b : ℕ) → StandAlike plan p a b → IsPointRenamed (exchanged a b) plan p p
+
+-- each lane is chosen, or stands alike with a lower one
+abbrev pub IsLowestChosen : Plan → Point → (ℕ → Bool) → Type 0
+IsLowestChosen plan p chosen = (lane : ℕ) → (chosen lane ≡ true) ⊎ ((lower : ℕ) × (lower < lane) × StandAlike plan p lower lane)
+
+-- then the chosen lanes are enough
+abbrev pub OneOfAlikeIsEnough : Type 0
+OneOfAlikeIsEnough = (plan : Plan) (p : Point) (chosen : ℕ → Bool) → IsLowestChosen plan p chosen → AreEnough plan p chosen
 
 -- the states of a dispatcher are in order
 abbrev pub LawfulIsInOrder : Type 0

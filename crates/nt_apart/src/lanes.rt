@@ -23,7 +23,7 @@ pub fn ticks_of_renamed_threads()
 
 /// Two threads stand alike where they have the same left to do, wait for nothing, own nothing and are named by no call that is left: to exchange
 /// them changes nothing of the point, and the states of dispatchers are such as this asks for. From renamed points each order has its image, of as
-/// many steps, and comes to a hang where that does. So of threads that stand alike one is enough: each order to a hang may as well begin with it.
+/// many steps, and comes to a hang where that does. So of threads that stand alike the lowest is enough: each order to a hang may as well begin with it.
 pub fn one_of_alike_is_enough()
     ensures exchange { ExchangeOfAlike }
     ensures orderly { LawfulIsInOrder }
