@@ -138,7 +138,7 @@ pub record AreGrantsRenamed (r : ℕ → ℕ) (grants renamed : List Grant) : Ty
 
 -- ---- states
 
--- a list by number has more than n entries, and the other list as many; the entry of each number stands there at the renamed number
+-- a list by number has at least n entries, and the other list as many; the entry of each number stands there, renamed, at the renamed number
 pub record AreMoved {A : Type 0} (n : ℕ) (r : ℕ → ℕ) (entry : A → A) (none : A) (xs ys : List A) : Type 0 where
   pub enough : n ≤ length xs
   pub count : length ys ≡ length xs

@@ -1,5 +1,5 @@
 // SPDX-License-Identifier: MIT OR Apache-2.0
-//! Which calls of two threads may be made in either order: steps that touch nothing in common commute.
+//! Which calls of two threads may be made in either order, since steps that touch nothing in common commute; and which threads stand alike.
 //!
 //! A search through the orders in which threads may make their calls need not try both orders of two calls that commute: it comes to the same
 //! state by each, with the same replies and the same grants. So what two calls touch decides, and these laws say where that is nothing in common:
