@@ -1,6 +1,6 @@
 -- How many states, steps and hangs there are.
 use Rattle.std.proofs.Common.{◌≡◌, ◌<◌, ◌≤◌, ℕ, zero, suc, ◌+◌, Bool, true, false, List, length, refl, sym, ap, ◌∙◌, subst, arith, Option, inl, inr, ◌⊎◌, if◌then◌else◌}
-use Rattle.std.specs.Prelude.{nat_lt, reverse, ◌↔◌}
+use Rattle.std.specs.Prelude.{nat_lt, reverse, ◌↔◌, Result, Ok, Err, OnErr}
 use Rattle.std.proofs.lemmas.Bool.{false≢true}
 use Rattle.std.proofs.lemmas.Bool.Decides.{nat_tests}
 use Rattle.nt_calls.specs.State.{State}
@@ -10,7 +10,7 @@ use Rattle.nt_explore.specs.declared.met.Visit.{Visit}
 use Rattle.nt_explore.specs.declared.loss.Edge.{Edge}
 use Rattle.nt_explore.specs.declared.explored.OrderVerdict.{OrderVerdict}
 use Rattle.nt_explore.specs.declared.explored.OrderVerdict.TheVariants as verdict
-use Rattle.nt_explore.specs.Search.{beginning, AreDistinct, IsOneIf, SumsTo, CountsTo, CanGo, TellsBound, Learns}
+use Rattle.nt_explore.specs.Search.{beginning, AreMetInTurn, IsUnderWay, AreDistinct, IsOneIf, SumsTo, CountsTo, CanGo, TellsBound, Learns}
 use Rattle.nt_explore.specs.Walk.{Tries}
 use Rattle.nt_explore.specs.Levels.{AreLooked, AreMet, LiesAt, then_met, one_more_if, IsFirst}
 use Rattle.nt_explore.proofs.Ways.{order_of}
@@ -177,6 +177,16 @@ met_more plan start old new pairs pairs' looked hangs hangs' hung point met with
 -- the search did not end before
 abbrev pub HasLeft : ℕ → (ℕ → ℕ) → ℕ → Type 0
 HasLeft most met looked = ((i : ℕ) → i < looked → i < met i) × ((i : ℕ) → 0 < i → i < looked → met i ≤ most)
+
+pub on_refusal : {X E so : Type 0} (r : Result X E) → so → OnErr r so
+on_refusal (Ok x) it = tt
+on_refusal (Err e) it = it
+
+pub under_way : (plan : Plan) (start : Point) (most : ℕ) (point : ℕ → Point) (met : ℕ → ℕ) (looked : ℕ) → AreMetInTurn plan start point met looked → HasLeft most met looked → IsUnderWay plan start most met looked
+under_way plan start most point met looked turns left = record { point = point; turns = turns; left = left.0; few = left.1 }
+
+pub left_none : (most : ℕ) (met : ℕ → ℕ) → HasLeft most met 0
+left_none most met = (λ i below. absurd (omega (arith, below)), λ i some below. absurd (omega (arith, below)))
 
 pub left_more : (most : ℕ) (met : ℕ → ℕ) (looked states : ℕ) → looked < met looked → (0 < looked → met looked ≤ most) → HasLeft most met looked → HasLeft most (then_met met looked states) (looked + 1)
 left_more most met looked states within few so = (

@@ -64,6 +64,13 @@ pub record EndsAfter (most : ℕ) (met : ℕ → ℕ) (looked : ℕ) : Type 0 wh
   pub few : (i : ℕ) → 0 < i → i < looked → met i ≤ most
   pub ends : (met looked ≡ looked) ⊎ (most < met looked)
 
+-- a search on its way: it looked at this many points, each met before, and went on only while no more than `most` were met
+pub record IsUnderWay (plan : Plan) (start : Point) (most : ℕ) (met : ℕ → ℕ) (looked : ℕ) : Type 0 where
+  pub point : ℕ → Point
+  pub turns : AreMetInTurn plan start point met looked
+  pub left : (i : ℕ) → i < looked → i < met i
+  pub few : (i : ℕ) → 0 < i → i < looked → met i ≤ most
+
 -- ---- what is counted
 
 -- 1 where it is so, and 0 where it is not

@@ -1,8 +1,8 @@
 //! The search, level by level.
-ghost use Rattle.std.specs.Prelude.{◌≡◌, ◌<◌, ◌≤◌, ◌+◌, ◌^◌, ℕ, length, Option, None, Some, IsSome, IfOk, OnOk};
+ghost use Rattle.std.specs.Prelude.{◌≡◌, ◌<◌, ◌≤◌, ◌+◌, ◌^◌, ℕ, length, Option, None, Some, IsSome, IfOk, OnErr, OnOk};
 ghost use Rattle.std.specs.Option.{ForSome, option_map};
 ghost use Rattle.nt_explore.specs.declared.loss.Edges.{Edges};
-ghost use Rattle.nt_explore.specs.Search.{start_of, TellsVerdict, TellsLoss, HasLoss, TellsSearch, Learns};
+ghost use Rattle.nt_explore.specs.Search.{start_of, TellsVerdict, TellsLoss, HasLoss, TellsSearch, IsUnderWay, Learns};
 ghost use Rattle.nt_explore.specs.Walk.{point_of, AreBehind, LeadsTo, TriesAt, TriesLaneAt, TriesLaneTo};
 ghost use Rattle.nt_explore.specs.Slots.{IsTable};
 ghost use Rattle.nt_explore.specs.Levels.{LiesAt, LooksOn, OfSearch, first_then, one_more_if};
@@ -260,7 +260,8 @@ fn judge(
     }
 }
 
-/// Tries all orders, until more states than `most` are met. The start is looked at in any case.
+/// Tries all orders, until more states than `most` are met. The start is looked at in any case. The watcher learns of each look, also of a
+/// search to which memory is refused.
 pub fn explore<W: Watcher>(
     alloc: Global,
     start: &Core,
@@ -272,6 +273,9 @@ pub fn explore<W: Watcher>(
     ensures whole { IfOk result (λ explored. explored.states ≤ most → HasLoss explored.verdict) }
     ensures searched { IfOk result (λ explored. (met : ℕ → ℕ) × (looked : ℕ)
         × TellsSearch plan.now (start_of plan.now start.now) most met looked explored
+        × Learns W.learns met looked watcher.old watcher.new) }
+    ensures refused { OnErr result ((met : ℕ → ℕ) × (looked : ℕ)
+        × IsUnderWay plan.now (start_of plan.now start.now) most met looked
         × Learns W.learns met looked watcher.old watcher.new) }
 {
     let mut met = Met::new(alloc)?;
