@@ -7,6 +7,8 @@ import signal
 import stat
 import subprocess
 import sys
+import threading
+import time
 
 import building
 from terminal import WHO, progress, say
@@ -91,13 +93,37 @@ def tell_version(name):
         return tell(name, f"{name} ".encode() + file.read())
 
 
+def teller_of(reader):
+    """Reads in the background what a search writes of how far it is: lines with the states that it looked at, those that it met, and the steps to
+    the last one that it looked at. Answers what tells of the last line."""
+    began, far = time.monotonic(), []
+
+    def read():
+        with os.fdopen(reader, "rb") as lines:
+            for line in lines:
+                far[:] = [int(it) for it in line.split()]
+
+    def tell():
+        if not far:
+            return ""
+        looked, states, depth = far
+        return f", {looked:,} of {states:,} states, depth {depth}, {looked / (time.monotonic() - began):,.0f} a second"
+
+    threading.Thread(target=read, daemon=True).start()
+    return tell
+
+
 def run_and_show(built, words, what):
-    """The same of a program that may take long, beside a terminal: that it does `what`, and for how long it has, is shown there. What it writes
-    is handed on once it has ended."""
-    child = subprocess.Popen([building.path_of(built), *words], stdout=subprocess.PIPE, stderr=subprocess.PIPE, close_fds=False)
+    """The same of a program that may take long, beside a terminal: that it does `what`, for how long it has, and how far it is by what it writes into
+    the file that NT_PROGRESS names, is shown there. What it writes else is handed on once it has ended."""
+    reader, writer = os.pipe()
+    os.set_inheritable(writer, True)
+    how = {"stdout": subprocess.PIPE, "stderr": subprocess.PIPE, "close_fds": False, "env": {**os.environ, "NT_PROGRESS": f"/dev/fd/{writer}"}}
+    child = subprocess.Popen([building.path_of(built), *words], **how)
+    os.close(writer)
     signal.signal(signal.SIGINT, signal.SIG_IGN)
     signal.signal(signal.SIGTERM, lambda *_: child.terminate())
-    with progress(what):
+    with progress(what, how_far=teller_of(reader)):
         wrote, said = child.communicate()
     say(*said.splitlines())
     status = child.returncode

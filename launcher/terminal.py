@@ -31,13 +31,13 @@ def write(text):
 
 
 @contextlib.contextmanager
-def progress(what, about=None):
-    """While it lasts, says how long a step has taken so far: each second on one line of a terminal, else each `EVERY` seconds."""
+def progress(what, about=None, how_far=lambda: ""):
+    """While it lasts, says how long a step has taken so far, and how far it is: each second on one line of a terminal, else each `EVERY` seconds."""
     began, ended, shows, of_about = time.monotonic(), threading.Event(), is_terminal(), f", of about {about}" if about else ""
 
     def tell():
         while not ended.wait(1 if shows else EVERY):
-            line = f"{WHO}: {what}: {int(time.monotonic() - began)} s{of_about}"
+            line = f"{WHO}: {what}: {int(time.monotonic() - began)} s{of_about}{how_far()}"
             write(f"\r\033[K{line}" if shows else f"{line}\n")
         write("\r\033[K" if shows else "")
 

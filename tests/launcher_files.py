@@ -134,6 +134,7 @@ def built_program():
 COMMANDS = {
     "script": 'while read -r line; do :; done <"$1"; echo "end: pending ${WAITS:-none}"',
     "threads": 'echo threads "$@"',
+    "explore": 'echo 12345 67890 17 >"$NT_PROGRESS"; sleep 2.5; echo "$1: explored"',
     "why": 'while read -r line; do :; done <"$1"; echo "$1:1: nobody waits"',
 }
 KIT = """#!/bin/sh

@@ -1,5 +1,5 @@
 -- What the words of a command line ask for.
-use Rattle.std.specs.Prelude.{ℕ, ◌==◌, ◌&&◌, ◌||◌, nat_le, nat_lt, Bool, true, false, not, List, [], ◌∷◌, length, Option, None, Some, option_map, option_and_then, is_some, take, drop, position, Result, Ok, Err, if◌then◌else◌, codes}
+use Rattle.std.specs.Prelude.{ℕ, ◌≡◌, ◌==◌, ◌&&◌, ◌||◌, nat_le, nat_lt, Bool, true, false, not, List, [], ◌∷◌, length, Option, None, Some, option_map, option_and_then, is_some, take, drop, position, Result, Ok, Err, if◌then◌else◌, codes}
 use Rattle.std.specs.Str.{bytes_eq}
 use Rattle.std.specs.Option.{option_copied}
 use Rattle.nt_lines.specs.Options.{ends_options, is_operand}
@@ -167,3 +167,8 @@ abbrev pub look_of : List (List ℕ) → Result LookAsked (Option Command)
 look_of [] = Err None
 look_of (own ∷ []) = Err None
 look_of (own ∷ name ∷ words) = by_command (command_of name) words
+
+-- what a function that reads words answers is what they ask for
+abbrev pub FindsLook : Option LookAsked → Option Look → Type 0
+FindsLook wanted None = wanted ≡ None
+FindsLook wanted (Some look) = wanted ≡ Some (look_asked look)

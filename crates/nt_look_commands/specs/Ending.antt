@@ -28,19 +28,20 @@ MakesTimeline None strict errors errors' status = PrintTimeline strict errors er
 MakesTimeline (Some drawing) strict errors errors' status = DrawingEnds strict errors errors' status
 
 -- It is said that memory ran out; or it was told of the orders of a file, to some writer; whether an order is asked for as a script.
-abbrev pub PrintOrders : (most : ℕ) → (asked : Bool) → (errors errors' : Writing) → (status : ℕ) → Type 0
-PrintOrders most asked errors errors' status =
-    SaysMemory errors errors' status
-    ⊎ ((writer writer' : Writing) × OrdersTold most asked writer writer' errors errors' status)
+abbrev pub PrintOrders : (most : ℕ) → (asked : Bool) → (errors errors' progress progress' : Writing) → (status : ℕ) → Type 0
+PrintOrders most asked errors errors' progress progress' status =
+    (SaysMemory errors errors' status × (progress' ≡ progress))
+    ⊎ ((writer writer' : Writing) × OrdersTold most asked writer writer' errors errors' progress progress' status)
 
 -- the usage of this command, or of all
 abbrev pub usage_for : Option Command → List ℕ
 usage_for None = look_usage
 usage_for (Some command) = usage_of command
 
--- What was asked for was done; or the usage was told.
-abbrev pub CommandEnds : Result LookAsked (Option Command) → (errors errors' : Writing) → (status : ℕ) → Type 0
-CommandEnds (Err command) errors errors' status = Says errors errors' (usage_for command) × (status ≡ 2)
-CommandEnds (Ok (AskedWhy file at strict)) errors errors' status = PrintTold file at strict errors errors' status
-CommandEnds (Ok (AskedTimeline file lines object thread drawing strict)) errors errors' status = MakesTimeline drawing strict errors errors' status
-CommandEnds (Ok (AskedExplore file most script)) errors errors' status = PrintOrders most (is_some script) errors errors' status
+-- What was asked for was done; or the usage was told. Only a search tells how far it is.
+abbrev pub CommandEnds : Result LookAsked (Option Command) → (errors errors' progress progress' : Writing) → (status : ℕ) → Type 0
+CommandEnds (Err command) errors errors' progress progress' status = Says errors errors' (usage_for command) × (status ≡ 2) × (progress' ≡ progress)
+CommandEnds (Ok (AskedWhy file at strict)) errors errors' progress progress' status = PrintTold file at strict errors errors' status × (progress' ≡ progress)
+CommandEnds (Ok (AskedTimeline file lines object thread drawing strict)) errors errors' progress progress' status =
+    MakesTimeline drawing strict errors errors' status × (progress' ≡ progress)
+CommandEnds (Ok (AskedExplore file most script)) errors errors' progress progress' status = PrintOrders most (is_some script) errors errors' progress progress' status

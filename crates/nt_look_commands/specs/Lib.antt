@@ -1,4 +1,3 @@
 pub mod Commands
 pub mod CommandLine
-pub mod Looks
 pub mod Ending

@@ -9,7 +9,7 @@ use crate::look::{Look, look_of};
 use nt_devices::{Counted, Sink};
 use nt_drawing::{Drawing, draw_file};
 use nt_hangs::{lacks_memory, say, why_file};
-use nt_orders::explore_file;
+use nt_orders::{Progress, explore_file};
 use nt_timeline::{Selection, timeline_file};
 use std::io::{self, BufWriter, Print};
 use std::rt::Files;
@@ -54,14 +54,16 @@ fn print_timeline<R: Files + AllocGlobal + Print, E: Sink>(
 
 /// Explores the orders of this file's script, reports on standard output, and writes the order that hangs into a file, if one is named.
 /// Answers the exit status.
-fn print_orders<R: Files + AllocGlobal + Print, E: Sink>(
+fn print_orders<R: Files + AllocGlobal + Print, E: Sink, P: Sink>(
     rt: &R,
     path: &str,
     most: u64,
     script: Option<&str>,
     errors: &mut E,
+    progress: &mut Progress<P>,
 ) -> u8
-    ensures { PrintOrders most (is_some (option_copied script.entry)) (E.seen errors.old) (E.seen errors.new) result }
+    ensures { PrintOrders most (is_some (option_copied script.entry)) (E.seen errors.old) (E.seen errors.new)
+        (P.seen progress.old.sink) (P.seen progress.new.sink) result }
 {
     match BufWriter::new(rt.alloc(), io::writer(rt)) {
         Ok(writer) => explore_file(
@@ -71,6 +73,7 @@ fn print_orders<R: Files + AllocGlobal + Print, E: Sink>(
             script,
             &mut Counted::new(writer),
             errors,
+            progress,
         ),
         Err(_) => lacks_memory(errors),
     }
@@ -104,8 +107,14 @@ fn make_timeline<R: Files + AllocGlobal + Print, E: Sink>(
 }
 
 /// Does what is asked for, and answers the exit status.
-fn take_look<R: Files + AllocGlobal + Print, E: Sink>(rt: &R, look: Look<'_>, errors: &mut E) -> u8
-    ensures { CommandEnds (Ok (look_asked look.entry)) (E.seen errors.old) (E.seen errors.new) result }
+fn take_look<R: Files + AllocGlobal + Print, E: Sink, P: Sink>(
+    rt: &R,
+    look: Look<'_>,
+    errors: &mut E,
+    progress: &mut Progress<P>,
+) -> u8
+    ensures { CommandEnds (Ok (look_asked look.entry)) (E.seen errors.old) (E.seen errors.new)
+        (P.seen progress.old.sink) (P.seen progress.new.sink) result }
 {
     match look {
         Look::Why { file, at, strict } => print_why(rt, file, at, strict, errors),
@@ -115,20 +124,25 @@ fn take_look<R: Files + AllocGlobal + Print, E: Sink>(rt: &R, look: Look<'_>, er
             drawing,
             strict,
         } => make_timeline(rt, file, &part, drawing, strict, errors),
-        Look::Explore { file, most, script } => print_orders(rt, file, most, script, errors),
+        Look::Explore { file, most, script } => {
+            print_orders(rt, file, most, script, errors, progress)
+        }
     }
 }
 
-/// Does what the words ask for, the program's own name first, and answers the exit status. What is not done is said on `errors`.
-pub fn carry_out<R: Files + AllocGlobal + Print, E: Sink>(
+/// Does what the words ask for, the program's own name first, and answers the exit status. What is not done is said on `errors`; how far a
+/// search is goes to `progress`.
+pub fn carry_out<R: Files + AllocGlobal + Print, E: Sink, P: Sink>(
     rt: &R,
     words: &[String],
     errors: &mut E,
+    progress: &mut Progress<P>,
 ) -> u8
-    ensures { CommandEnds (look_of (map string_bytes words.now)) (E.seen errors.old) (E.seen errors.new) result }
+    ensures { CommandEnds (look_of (map string_bytes words.now)) (E.seen errors.old) (E.seen errors.new)
+        (P.seen progress.old.sink) (P.seen progress.new.sink) result }
 {
     match look_of(words) {
-        Ok(look) => take_look(rt, look, errors),
+        Ok(look) => take_look(rt, look, errors, progress),
         Err(command) => say(errors, usage_for(command), 2),
     }
 }

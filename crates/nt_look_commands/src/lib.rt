@@ -14,3 +14,4 @@ pub use command::Command;
 pub use commands::carry_out;
 pub use look::{Look, look_of};
 pub use nt_hangs::lacks_memory;
+pub use nt_orders::Progress;

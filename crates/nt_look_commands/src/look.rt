@@ -1,8 +1,7 @@
 //! What a command line asks for.
 ghost use Rattle.std.specs.Prelude.{◌≡◌, ◌<◌, None, Some, IfSome, length, option_map, position, MatchOption, MatchResult, codes, map, string_bytes};
-ghost use Rattle.nt_look_commands.specs.CommandLine.{asked_after, asked_of, drawing_asked, is_strict, drawing_in, after_dots, look_asked, both, explore_in, is_dot, line_number_in, line_range_in, look_of, most_in, most_of, timeline_in, told, option_value_in, why_in};
+ghost use Rattle.nt_look_commands.specs.CommandLine.{FindsLook, asked_after, asked_of, drawing_asked, is_strict, drawing_in, after_dots, look_asked, both, explore_in, is_dot, line_number_in, line_range_in, look_of, most_in, most_of, timeline_in, told, option_value_in, why_in};
 ghost use Rattle.nt_lines.specs.Words.{caller_of};
-ghost use Rattle.nt_look_commands.specs.Looks.{FindsLook};
 
 use crate::command::{Command, command_of};
 use crate::words::{are_lawful, file_in, value_in};

@@ -4,6 +4,7 @@ ghost use Rattle.std.specs.Option.{option_copied};
 ghost use Rattle.nt_orders.specs.Ending.{KeepsOrder, OrdersEnd, OrdersTold, TellsOrdersFault, TellsOrders, TellsOutcome, WritesOrder, order_due};
 
 use crate::fault::{OrdersFault, message_of, status_of};
+use crate::progress::Progress;
 use crate::report::{Findings, report_on};
 use nt_devices::{Counted, Sink, Source};
 use nt_hangs::{InputFault, Report, lacks_memory, read_whole, say, show};
@@ -76,7 +77,7 @@ fn show_findings<F: Files, W: Sink, E: Sink>(
 }
 
 /// Reports on these bytes.
-fn explore_input<F: Files + AllocGlobal, W: Sink, E: Sink>(
+fn explore_input<F: Files + AllocGlobal, W: Sink, E: Sink, P: Sink>(
     files: &F,
     file: &[u8],
     input: &[u8],
@@ -84,11 +85,12 @@ fn explore_input<F: Files + AllocGlobal, W: Sink, E: Sink>(
     script: Option<&str>,
     writer: &mut W,
     errors: &mut E,
+    progress: &mut Progress<P>,
 ) -> u8
     ensures { TellsOrders most (is_some (option_copied script.entry)) input.now (W.seen writer.old) (W.seen writer.new)
-        (E.seen errors.old) (E.seen errors.new) result }
+        (E.seen errors.old) (E.seen errors.new) (P.seen progress.old.sink) (P.seen progress.new.sink) result }
 {
-    match report_on(files.alloc(), file, input, most) {
+    match report_on(files.alloc(), file, input, most, progress) {
         Ok(found) => show_findings(files, script, found, writer, errors),
         Err(fault) => tell(files.alloc(), fault, errors),
     }
@@ -98,8 +100,9 @@ fn explore_input<F: Files + AllocGlobal, W: Sink, E: Sink>(
 /// calls the script. If `script` names a file, and an order hangs, that order is written into it as a script, once the report is written.
 ///
 /// Answers the exit status: 0 if none hangs; 3 if some order hangs; 4 if the bound was met before any did; 2 if a line has a fault; 1 if
-/// reading, creating, writing or memory failed. Of 1 and 2 a line on `errors` tells why; a failure to write that is ignored.
-pub fn explore_over<F: Files + AllocGlobal, R: Source, W: Sink, E: Sink>(
+/// reading, creating, writing or memory failed. Of 1 and 2 a line on `errors` tells why; a failure to write that is ignored. How far the
+/// search is goes to `progress`.
+pub fn explore_over<F: Files + AllocGlobal, R: Source, W: Sink, E: Sink, P: Sink>(
     files: &F,
     file: &[u8],
     most: usize,
@@ -107,28 +110,40 @@ pub fn explore_over<F: Files + AllocGlobal, R: Source, W: Sink, E: Sink>(
     reader: &mut R,
     writer: &mut W,
     errors: &mut E,
+    progress: &mut Progress<P>,
 ) -> u8
     ensures { OrdersEnd most (is_some (option_copied script.entry)) (R.seen reader.old) (R.seen reader.new)
-        (W.seen writer.old) (W.seen writer.new) (E.seen errors.old) (E.seen errors.new) result }
+        (W.seen writer.old) (W.seen writer.new) (E.seen errors.old) (E.seen errors.new)
+        (P.seen progress.old.sink) (P.seen progress.new.sink) result }
 {
     match read_whole(files.alloc(), reader) {
-        Ok(input) => explore_input(files, file, input.as_slice(), most, script, writer, errors),
+        Ok(input) => explore_input(
+            files,
+            file,
+            input.as_slice(),
+            most,
+            script,
+            writer,
+            errors,
+            progress,
+        ),
         Err(InputFault::Failed) => say(errors, b"ntlook: read failed\n", 1),
         Err(InputFault::Memory) => lacks_memory(errors),
     }
 }
 
 /// The same of the script in this file; 1 where it can't be opened, which is said on `errors`.
-pub fn explore_file<F: Files + AllocGlobal, W: Sink, E: Sink>(
+pub fn explore_file<F: Files + AllocGlobal, W: Sink, E: Sink, P: Sink>(
     files: &F,
     path: &str,
     most: usize,
     script: Option<&str>,
     writer: &mut W,
     errors: &mut E,
+    progress: &mut Progress<P>,
 ) -> u8
     ensures { OrdersTold most (is_some (option_copied script.entry)) (W.seen writer.old) (W.seen writer.new)
-        (E.seen errors.old) (E.seen errors.new) result }
+        (E.seen errors.old) (E.seen errors.new) (P.seen progress.old.sink) (P.seen progress.new.sink) result }
 {
     match fs::open(files, path) {
         Ok(file) => explore_over(
@@ -139,6 +154,7 @@ pub fn explore_file<F: Files + AllocGlobal, W: Sink, E: Sink>(
             &mut Counted::new(file),
             writer,
             errors,
+            progress,
         ),
         Err(_) => say(errors, b"ntlook: cannot open\n", 1),
     }

@@ -3,7 +3,7 @@ ghost use Rattle.std.specs.Prelude.{◌≡◌, ◌<◌, ◌++◌, ◌&&◌, ℕ,
 ghost use Rattle.nt_calls.specs.State.{pends};
 ghost use Rattle.nt_look.specs.Hangs.{marked, unmarked};
 ghost use Rattle.nt_machine.specs.Dispatcher.{state};
-ghost use Rattle.nt_orders.specs.Hangs.{hang_text, AreHeld};
+ghost use Rattle.nt_orders.specs.Rows.{hang_text, AreHeld};
 
 use nt_core::Core;
 use nt_look::greatest_knot;

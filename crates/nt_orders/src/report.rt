@@ -1,31 +1,24 @@
 //! The report of a script's orders.
-ghost use Rattle.std.specs.Prelude.{◌≡◌, IfOk};
+ghost use Rattle.std.specs.Prelude.{◌≡◌, IfOk, OnErr, option_map};
 ghost use Rattle.nt_machine.specs.Dispatcher.{state};
 ghost use Rattle.nt_hangs.specs.Watching.{before_zero};
-ghost use Rattle.nt_orders.specs.Ending.{verdict_code, PlanIsJudged, IsOrdersOutcome};
+ghost use Rattle.nt_explore.specs.Search.{TellsVerdict, beginning};
+ghost use Rattle.nt_orders.specs.Ending.{verdict_code, order_of, IsCutOff, IsSearched, IsOrdersOutcome};
 ghost use Rattle.nt_orders.specs.Reading.{lanes_of};
 
 use crate::fault::OrdersFault;
 use crate::hang::{held_at, put_hang};
 use crate::lanes::Script;
+use crate::progress::Progress;
 use crate::reading::read_script;
 use crate::rows::put_rows;
 use nt_core::Core;
-use nt_explore::{Explored, Loss, OrderVerdict, Watcher, explore};
+use nt_devices::Sink;
+use nt_explore::{Explored, Loss, OrderVerdict, explore};
 use nt_hangs::{Report, before_zero};
 use nt_look::is_stuck;
 use nt_wording::{put_number, put_thread_title, put_waiters};
 use std::alloc::{AllocError, Global};
-
-/// Nobody learns how far the search is.
-#[derive(Drop)]
-struct Nobody;
-
-impl Watcher for Nobody {
-    ghost learns = { λ old looked states new. Unit {0} };
-
-    fn tell(&mut self, _looked: usize, _states: usize) {}
-}
 
 /// What the orders of a script come to.
 #[derive(Drop)]
@@ -194,37 +187,60 @@ impl Script {
         Ok(Report { text, code })
     }
 
-    /// Explores the orders, and reports.
-    fn explore(
+    /// Explores the orders, and tells how far that is.
+    fn search<P: Sink>(
+        &self,
+        alloc: Global,
+        most: usize,
+        progress: &mut Progress<P>,
+    ) -> Result<Explored, AllocError>
+        ensures verdict { IfOk result (λ explored. TellsVerdict (lanes_of self.now).plan
+            (beginning (lanes_of self.now).plan (state self.now.session.core)) explored.verdict) }
+        ensures searched { IfOk result (IsSearched most (lanes_of self.now) (state self.now.session.core)
+            (P.seen progress.old.sink) (P.seen progress.new.sink)) }
+        ensures cut_off { OnErr result (IsCutOff most (lanes_of self.now) (state self.now.session.core)
+            (P.seen progress.old.sink) (P.seen progress.new.sink)) }
+    {
+        progress.begin();
+        explore(alloc, self.session.core(), &self.plan, most, progress)
+    }
+
+    /// Reports on what was explored.
+    fn findings(
         &mut self,
         alloc: Global,
         file: &[u8],
         told: &[u8],
-        most: usize,
+        explored: &Explored,
     ) -> Result<Findings, AllocError>
-        ensures { IfOk result (PlanIsJudged most (lanes_of self.old) (state self.old.session.core)) }
+        ensures code { IfOk result (λ found. found.report.code ≡ verdict_code explored.now.verdict) }
+        ensures order { IfOk result (λ found. option_map (λ text. text.items) found.order
+            ≡ order_of (lanes_of self.old) explored.now.verdict) }
     {
-        let explored = explore(alloc, self.session.core(), &self.plan, most, &mut Nobody)?;
         let order = self.order_of(alloc, &explored.verdict)?;
-        let report = self.report(alloc, file, told, &explored)?;
+        let report = self.report(alloc, file, told, explored)?;
         Ok(Findings { report, order })
     }
 }
 
 /// Explores the orders of a script's lines until `most` states are met, and reports. The script ends at its first zero byte. `file` is what
 /// the report calls it; threads and objects go by the names that its comments tell, as `; h256 is accounts`.
-pub fn report_on(
+pub fn report_on<P: Sink>(
     alloc: Global,
     file: &[u8],
     input: &[u8],
     most: usize,
+    progress: &mut Progress<P>,
 ) -> Result<Findings, OrdersFault>
-    ensures { IsOrdersOutcome most (before_zero input.now) result }
+    ensures { IsOrdersOutcome most (before_zero input.now) (P.seen progress.old.sink) (P.seen progress.new.sink) result }
 {
     let lines = before_zero(input);
     let mut script = read_script(alloc, lines)?;
-    match script.explore(alloc, file, lines, most) {
-        Ok(found) => Ok(found),
+    match script.search(alloc, most, progress) {
+        Ok(explored) => match script.findings(alloc, file, lines, &explored) {
+            Ok(found) => Ok(found),
+            Err(_) => Err(OrdersFault::Memory),
+        },
         Err(_) => Err(OrdersFault::Memory),
     }
 }

@@ -1,5 +1,5 @@
 use Rattle.std.proofs.Common.{◌<◌, arith, length}
-use Rattle.nt_orders.proofs.Adding.{texts_added}
+use Rattle.nt_orders.proofs.Lines.{texts_added}
 use Rattle.nt_orders.proofs.lanes.push_line.Goals as goal
 
 pub returns : goal.returns

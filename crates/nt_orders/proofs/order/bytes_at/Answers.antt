@@ -1,6 +1,6 @@
 use Rattle.std.proofs.Common.{◌∙◌, ap, sym}
 use Rattle.nt_orders.specs.Reading.{line_bytes}
-use Rattle.nt_orders.proofs.Adding.{bytes_there}
+use Rattle.nt_orders.proofs.Lines.{bytes_there}
 use Rattle.nt_orders.proofs.order.bytes_at.Goals as goal
 
 pub returns-clause-bytes : goal.returns-clause-bytes
