@@ -21,7 +21,7 @@ from rooms import OWN_WORK, copy_folder
 
 TOP = os.path.dirname(os.path.dirname(os.path.realpath(__file__)))
 # The most bytes of kept work, those of the disk that stay free, and the most sums of what passed.
-MOST, SPARE, MOST_PASSED = 16_000_000_000, 5_000_000_000, 20_000
+MOST, SPARE, MOST_PASSED = 24_000_000_000, 5_000_000_000, 20_000
 # How old what a killed run left has to be before it goes, in seconds.
 OLD = 6 * 3600
 # What words of the environment that a kit heeds begin with.
