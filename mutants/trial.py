@@ -110,12 +110,20 @@ class Trial:
         return is_held
 
     def end(self):
-        """Tells what the crate's checks took, and notes what was refused. It fails all where a round has written into a file of what was kept."""
+        """Tells what the crate's checks took. It fails all where a round has written into a file of what was kept."""
         self.progress.tell(f"{self.crate.name}: {self.number} checks, {self.used:.0f} s of processors")
-        if files_in(f"{self.kept}/{OWN_WORK}") != self.files:
+        if not self.is_untouched():
             self.refused = []
             self.fail(self.edits, f"{self.crate.name}: A ROUND WROTE INTO WHAT WAS KEPT, so no edit tells anything")
-        for it in self.refused if self.verdicts else ():
+
+    def is_untouched(self):
+        """Whether no round has written into a file of what was kept."""
+        return files_in(f"{self.kept}/{OWN_WORK}") == self.files
+
+    def refuse(self, edits):
+        """Notes that these edits were refused: at once, so that a run which is killed later keeps it."""
+        self.refused += edits
+        for it in edits if self.verdicts and self.is_untouched() else ():
             self.verdicts.note_passed(self.sums[it])
 
     def tries(self, edits):
@@ -127,7 +135,7 @@ class Trial:
         only = sorted(it.path.removeprefix(f"{self.crate.name}::") for it in set().union(*(it.changes() for it in edits)))
         said = self.check({**answers, **texts}, only)
         refused, again = judge_round(said, edits, self.functions, texts, firsts)
-        self.refused += refused
+        self.refuse(refused)
         parts = [[it for it in edits if bool(it.laws) == of_laws] for of_laws in (True, False)]
         alone = [it for it in edits if it not in refused and it not in again]
         apart = not refused and not again and all(parts)
@@ -141,7 +149,10 @@ class Trial:
         said = self.check(edit.texts)
         is_refused, why = judge_alone(said, edit.texts)
         self.progress.tell(f"{edit.name}: {why}, alone, {said.seconds:.0f} s")
-        (self.refused.append(edit) if is_refused else self.failed.append(edit.name))
+        if is_refused:
+            self.refuse([edit])
+        else:
+            self.failed.append(edit.name)
 
 
 def uncompiled(trial, edits):
