@@ -33,7 +33,7 @@ use Rattle.nt_apart.proofs.Renaming.{lt_there, test_member}
 first_to : (a b : ℕ) → exchanged a b a ≡ b
 first_to a b = ap (λ (c : Bool). if c then b else if a == b then a else a) (same_yes a a refl)
 
-other_to : (a b x : ℕ) → x ≢ a → x ≢ b → exchanged a b x ≡ x
+pub other_to : (a b x : ℕ) → x ≢ a → x ≢ b → exchanged a b x ≡ x
 other_to a b x one two =
     ap (λ (c : Bool). if c then b else if x == b then a else x) (same_no x a one) ∙ ap (λ (c : Bool). if c then a else x) (same_no x b two)
 
@@ -102,7 +102,7 @@ object_fixed a b (Timer manual set (Some armed)) one two = ap (λ (x : Option Ro
 object_fixed a b (Thread ended) one two = refl
 object_fixed a b Gone one two = refl
 
-opened_twice : (n : ℕ) (r : ℕ → ℕ) → IsRenaming n r → (o : Option Opened) → option_map (renamed_opened r) (option_map (renamed_opened r) o) ≡ o
+pub opened_twice : (n : ℕ) (r : ℕ → ℕ) → IsRenaming n r → (o : Option Opened) → option_map (renamed_opened r) (option_map (renamed_opened r) o) ≡ o
 opened_twice n r ren None = refl
 opened_twice n r ren (Some opened) = ap (λ (k : ℕ). Some (record opened { object = k })) (ren.back opened.object)
 

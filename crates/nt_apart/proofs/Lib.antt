@@ -26,3 +26,4 @@ pub mod RenamedNumbers
 pub mod RenamedSteps
 pub mod RenamedRefusals
 pub mod Exchanging
+pub mod Chosen

@@ -139,7 +139,7 @@ numbers_rising n r ren P Q t xs one rising there back = record {
 
 -- ---- what a call changes
 
-object_twice : (n : ℕ) (r : ℕ → ℕ) → IsRenaming n r → (o : Object) → renamed_object r (renamed_object r o) ≡ o
+pub object_twice : (n : ℕ) (r : ℕ → ℕ) → IsRenaming n r → (o : Object) → renamed_object r (renamed_object r o) ≡ o
 object_twice n r ren (Event manual set) = refl
 object_twice n r ren (Semaphore count maximum) = refl
 object_twice n r ren (Mutex None depth abandoned) = refl

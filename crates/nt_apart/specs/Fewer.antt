@@ -1,6 +1,6 @@
 -- A search that leaves lanes out, and finds a shortest hang all the same; and threads that stand alike, of which one is enough.
-use Rattle.std.specs.Prelude.{Contains, ◌≡◌, ◌≢◌, ◌==◌, if◌then◌else◌, ◌⊎◌, ◌≤◌, ℕ, Bool, true, List, [], ◌∷◌, length, ◌<◌, false, map, drop, slice_index_or, option_map}
-use Rattle.nt_look.specs.Orders.{Plan, Point, Goes, Order, Hangs, Ask, Calls, Passes, place, asks}
+use Rattle.std.specs.Prelude.{Contains, ◌≡◌, ◌≢◌, ◌==◌, if◌then◌else◌, ◌⊎◌, ◌↔◌, ◌≤◌, ℕ, Bool, true, List, [], ◌∷◌, length, ◌<◌, false, map, drop, slice_index_or, option_map}
+use Rattle.nt_look.specs.Orders.{Plan, Point, Goes, Order, Hangs, IsLost, Ask, Calls, Passes, place, asks}
 use Rattle.std.specs.FinMap.{get}
 use Rattle.std.specs.declared.option.Option.TheVariants.{None, Some}
 use Rattle.std.specs.declared.result.Result.{Result}
@@ -294,3 +294,53 @@ OneOfAlikeIsEnough = (plan : Plan) (p : Point) (chosen : ℕ → Bool) → IsLow
 -- the states of a dispatcher are in order
 abbrev pub LawfulIsInOrder : Type 0
 LawfulIsInOrder = (d : Dispatcher) → IsLawful d → IsInOrder (state d)
+
+-- ---- losses, by the lanes that are chosen
+
+-- a wait is lost exactly where it pends and is lost wherever a chosen lane leads
+abbrev pub LossesComeBackwardsByChosen : Type 0
+LossesComeBackwardsByChosen =
+    (plan : Plan) (p : Point) (t : ℕ) (chosen : ℕ → Bool)
+    → IsLowestChosen plan p chosen
+    → IsLost plan p t
+    ↔ ((pends p.state t ≡ true) × ((lane : ℕ) (q : Point) → chosen lane ≡ true → Goes plan p lane q → IsLost plan q t))
+
+-- some wait is lost
+abbrev pub LosesOne : Plan → Point → Type 0
+LosesOne plan p = (t : ℕ) × IsLost plan p t
+
+-- chosen lanes alone, no more than these, come to a point of which this is so
+pub record ComesAsSoon (plan : Plan) (chosen : Point → ℕ → Bool) (start : Point) (lanes : List ℕ) (so : Point → Type 0) : Type 0 where
+  pub others : List ℕ
+  pub point : Point
+  pub few : length others ≤ length lanes
+  pub order : OrderOf plan chosen start others point
+  pub is : so point
+
+-- what a search met has the start, and with each point all to which a chosen lane leads; and each other lane there stands alike with a lower one
+pub record IsLowestSearch (plan : Plan) (chosen : Point → ℕ → Bool) (met : List Point) (start : Point) : Type 0 where
+  pub begins : Contains met start
+  pub closed : (p q : Point) (lane : ℕ) → Contains met p → chosen p lane ≡ true → Goes plan p lane q → Contains met q
+  pub lowest : (p : Point) → Contains met p → IsLowestChosen plan p (chosen p)
+
+-- such a search meets a lost wait as soon as any order comes to one
+abbrev pub LossesAreMetAsSoon : Type 0
+LossesAreMetAsSoon =
+    (plan : Plan) (chosen : Point → ℕ → Bool) (met : List Point) (start : Point)
+    → IsLowestSearch plan chosen met start
+    → (lanes : List ℕ) (q : Point) (u : ℕ) → Order plan start lanes q → IsLost plan q u
+    → ComesAsSoon plan chosen start lanes (λ p. Contains met p × LosesOne plan p)
+
+-- wherever fewer than so many chosen lanes come, each other lane stands alike with a lower one
+abbrev pub AreLowestWithin : Plan → (Point → ℕ → Bool) → Point → ℕ → Type 0
+AreLowestWithin plan chosen start most =
+    (lanes : List ℕ) (p : Point) → length lanes < most → OrderOf plan chosen start lanes p → IsLowestChosen plan p (chosen p)
+
+-- then chosen lanes come to a hang as soon as any order of at most so many, and to a lost wait too
+abbrev pub LowestComeAsSoon : Type 0
+LowestComeAsSoon =
+    (plan : Plan) (chosen : Point → ℕ → Bool) (start : Point) (most : ℕ)
+    → AreLowestWithin plan chosen start most
+    → (lanes : List ℕ) (q : Point) → length lanes ≤ most → Order plan start lanes q
+    → (Hangs plan q → ComesAsSoon plan chosen start lanes (Hangs plan))
+    × (LosesOne plan q → ComesAsSoon plan chosen start lanes (LosesOne plan))

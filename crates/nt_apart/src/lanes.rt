@@ -1,8 +1,9 @@
 //! Searches that leave lanes out, and threads that stand alike.
-ghost use Rattle.nt_apart.specs.Fewer.{FewerLanesAreEnough, CallsOfRenamedThreads, TicksOfRenamedThreads, OrdersOfRenamedThreads, OneOfAlikeIsEnough, ExchangeOfAlike, LawfulIsInOrder};
+ghost use Rattle.nt_apart.specs.Fewer.{FewerLanesAreEnough, CallsOfRenamedThreads, TicksOfRenamedThreads, OrdersOfRenamedThreads, OneOfAlikeIsEnough, ExchangeOfAlike, LawfulIsInOrder, LossesComeBackwardsByChosen, LossesAreMetAsSoon, LowestComeAsSoon};
 
 /// A search that leaves lanes out finds a hang wherever one is, and a shortest one first, if in each of its states the chosen lanes are
 /// enough: each order to a hang may as well begin with one of them.
+#[tactic(auto, using(crate::proofs::Fewer::fewer_are_enough))]
 pub fn fewer_lanes_are_enough()
     ensures { FewerLanesAreEnough }
 {}
@@ -29,4 +30,13 @@ pub fn one_of_alike_is_enough()
     ensures orderly { LawfulIsInOrder }
     ensures images { OrdersOfRenamedThreads }
     ensures enough { OneOfAlikeIsEnough }
+{}
+
+/// Where each lane is chosen or its thread stands alike with one of a lower lane, a wait is lost exactly where it pends and is lost wherever a chosen
+/// lane leads. So a search by chosen lanes tells losses, too, and meets one as soon as any order comes to it; and if it ends at a bound, it met
+/// whatever an order within that bound comes to, hang or loss.
+pub fn fewer_lanes_tell_losses()
+    ensures backwards { LossesComeBackwardsByChosen }
+    ensures met { LossesAreMetAsSoon }
+    ensures within { LowestComeAsSoon }
 {}

@@ -21,6 +21,7 @@
 //! | `two_closes_commute` | two handles that are closed, as whole calls, with the objects that end |
 //! | `calls_of_renamed_threads`, `ticks_of_renamed_threads` | any call or tick, where threads are renamed, as by exchanging two |
 //! | `one_of_alike_is_enough` | orders of renamed threads have images that hang alike, and of threads that stand alike one is enough |
+//! | `fewer_lanes_tell_losses` | a search by one of each that stand alike meets a shortest loss, too, also within a bound |
 //! | `fewer_lanes_are_enough` | a search that leaves lanes out meets a shortest hang, if the lanes that it tries are enough |
 //!
 //! A law is the contract of a function that takes nothing and does nothing, as in `nt_laws`.
@@ -30,8 +31,8 @@ mod lanes;
 mod steps;
 
 pub use lanes::{
-    calls_of_renamed_threads, fewer_lanes_are_enough, one_of_alike_is_enough,
-    ticks_of_renamed_threads,
+    calls_of_renamed_threads, fewer_lanes_are_enough, fewer_lanes_tell_losses,
+    one_of_alike_is_enough, ticks_of_renamed_threads,
 };
 pub use steps::{
     apcs_commute_with_signals, apcs_to_two_threads_commute, calls_on_two_objects_commute,

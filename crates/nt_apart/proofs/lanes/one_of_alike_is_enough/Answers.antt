@@ -1,5 +1,6 @@
 use Rattle.nt_apart.proofs.Exchanging.{exchange_alike, lawful_in_order}
-use Rattle.nt_apart.proofs.Fewer.{orders_renamed, one_is_enough}
+use Rattle.nt_apart.proofs.Fewer.{orders_renamed}
+use Rattle.nt_apart.proofs.Chosen.{one_is_enough}
 use Rattle.nt_apart.proofs.lanes.one_of_alike_is_enough.Goals as goal
 
 pub returns-clause-exchange : goal.returns-clause-exchange
