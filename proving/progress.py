@@ -52,19 +52,17 @@ class Progress:
         ended = threading.Event()
 
         def write():
-            while not ended.wait(PAUSE):
+            while self.out.isatty() and not ended.wait(PAUSE):
                 with self.lock:
                     print(f"\r\x1b[K{self.line()}", end="", file=self.out, flush=True)
                     self.shown = True
 
         writer = threading.Thread(target=write, daemon=True)
-        if self.out.isatty():
-            writer.start()
+        writer.start()
         try:
             yield self
         finally:
             ended.set()
-            if writer.ident:
-                writer.join()
+            writer.join()
             with self.lock:
                 self.wipe()

@@ -16,7 +16,7 @@ import kit
 import steps
 import telling
 from command import Said, why_no_proof_of_tests, why_not_proved
-from crates import crates_of
+from crates import text_of
 from edits import edits_in
 from kept import Kept, bytes_of, sum_of_kit_of
 from judging import judge_alone, judge_round
@@ -290,10 +290,8 @@ def runs(number):
 def as_a_whole(folder):
     """The gate ends with status 1 where a crate is not proved, and names the tools that are lacking."""
     write_tree(f"{folder}/copy", check="logic=not-proved functions=1\n")
-    others = [f"{TOP}/{it}" for it in ("launcher/kit.py", "tests/failures.py", "tests/rows.py", "gate")]
-    for it in [*glob.glob(f"{TOP}/proving/*.py"), *glob.glob(f"{TOP}/mutants/*.py"), *others]:
-        os.makedirs(os.path.dirname(f"{folder}/copy/{os.path.relpath(it, TOP)}"), exist_ok=True)
-        shutil.copy(it, f"{folder}/copy/{os.path.relpath(it, TOP)}")
+    for it in [*glob.glob("*/*.py", root_dir=TOP), "gate"]:
+        write(f"{folder}/copy/{it}", text_of(f"{TOP}/{it}"), 0o755)
     write(f"{folder}/copy/proving/scenes.py", "from telling import Step\n\n\ndef run(_):\n    return Step(1)\n")
     for _, it in steps.FOR_OTHERS:
         write(f"{folder}/copy/{it}", "#!/bin/sh\necho 'no such language here'\nexit 1\n", 0o755)

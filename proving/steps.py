@@ -1,6 +1,5 @@
 """The steps of the gate. Each is its name, a call that gives what it counted, and whether the steps after it need what it makes."""
 import contextlib
-import filecmp
 import functools
 import glob
 import os
@@ -98,14 +97,6 @@ def counted(words, top, progress):
     ended = f"killed by {signal.Signals(-status).name}" if status < 0 else f"{failed} failed" if failed else f"status {status}"
     first = [it[:100] for it in lines if it and not it.startswith((" ", "make", "NT_C=")) and not COUNTED.match(it)][:3]
     return Step(passed, ["; ".join([ended, *first])], failed or 1, used=used)
-
-
-def no_conflict_markers(top, progress):
-    said = run(["git", "grep", "-nE", r"^(<{7}|>{7}|\|{7})( |$)", "--", "."], top)
-    lines = said.text.splitlines()
-    for it in lines:
-        progress.tell(it)
-    return Step(1) if said.status == 1 and not lines else Step(0, [it.split(":")[0] for it in lines] or [f"git grep: status {said.status}"])
 
 
 def laid_out_otherwise(crate, room, kept):
@@ -230,24 +221,14 @@ def example(top, words, wanted):
     return told
 
 
-def drawn(top):
-    """What is told where the picture is not what `ntlook timeline` draws."""
-    with tempfile.TemporaryDirectory() as folder:
-        ran = run(["./ntlook", "timeline", SHOWN, "--svg", f"{folder}/drawn.svg"], top)
-        if not ran.status and filecmp.cmp(f"{folder}/drawn.svg", f"{top}/{PICTURE}", shallow=False):
-            return []
-    return [f"{PICTURE}: not what ./ntlook timeline {SHOWN} --svg {PICTURE} draws", *ran.text.splitlines()]
-
-
 def examples(top, progress):
     """The launchers write of each example what stands, and draw the picture. Not of each stands why its threads wait, a timeline, or orders."""
-    runs = [(words[2], functools.partial(example, top, words, wanted)) for words, wanted in runs_of(top)]
-    runs.append((PICTURE, functools.partial(drawn, top)))
+    runs = [*runs_of(top), (["./ntlook", "timeline", SHOWN, "--svg", "/dev/stdout"], text_of(f"{top}/{PICTURE}"))]
     with ThreadPoolExecutor(processors()) as pool:
-        told = list(pool.map(lambda it: it[1](), runs))
+        told = list(pool.map(lambda it: example(top, *it), runs))
     for it in sum(told, []):
         progress.tell(it.replace(f"{top}/", ""))
-    failed = [name for (name, _), lines in zip(runs, told) if lines]
+    failed = [words[2] for (words, _), lines in zip(runs, told) if lines]
     return Step(len(runs) - len(failed), failed)
 
 
@@ -281,7 +262,7 @@ def for_others(top, tell):
 def before_proofs(top, takes):
     """What needs no proof and no build. What earlier runs kept of it is taken where `takes`."""
     return [
-        ("no conflict markers", functools.partial(no_conflict_markers, top), False),
+        ("no conflict markers", command(top, "sh", "-c", r"git grep -nE '^(<{7}|>{7}|\|{7})( |$)' -- .; test $? = 1"), False),
         ("each file is laid out", functools.partial(each_file_is_laid_out, top, takes), False),
         ("docs/MODEL.md has each file of definitions", command(top, "docs/check_model"), False),
         ("the names of the docs", command(top, "docs/check_names"), False),
@@ -290,24 +271,17 @@ def before_proofs(top, takes):
     ]
 
 
-def unproved(top, builds, pool):
+def unproved(top, builds, lane):
     """What a change breaks first, over builds without proofs: each program takes many times as long there. The tests of C, which wait more than they
     work, run beside the others."""
-    in_c = Beside(command(top, "make", "--no-print-directory", "-C", "c", "quick"), pool)
-
-    def built(progress):
-        found = unproved_build(builds, progress)
-        if found.is_made:
-            in_c.begin()
-        return found
-
-    return [
-        ("the unproved build", built, True),
+    named = [
+        ("the unproved build", functools.partial(unproved_build, builds), True),
         ("the examples", functools.partial(examples, top), False),
         ("the launcher, and the worked scripts", command(top, "tests/launcher", "--few"), False),
         ("random scripts and lives, a second way", command(top, "tests/compare", "--few"), False),
-        ("the library for C programs, unproved", in_c.turn, False),
+        (IN_C_UNPROVED, command(top, "make", "--no-print-directory", "-C", "c", "quick"), False),
     ]
+    return with_long_ones_beside(named, lane)
 
 
 def sum_of_machine():
@@ -345,12 +319,13 @@ def repeated(tree, kept, names, without, words, call):
     return step
 
 
-# What is long, and begins once the proofs are made, in this order, one at a time beside the steps whose turn it is. Each of these, and most others,
-# keeps two processors busy by itself: so there have to be four.
-LONG, PROCESSORS_OF_TWO = ("the library for C programs", "the scripts, each growth refused", "a release, where no kit is"), 4
+# What is long, and begins once the proofs or builds are made, in this order, one at a time beside the steps whose turn it is. Over proved builds each
+# of these, and most others, keeps two processors busy by itself: so there have to be four.
+IN_C_UNPROVED = "the library for C programs, unproved"
+LONG, PROCESSORS_OF_TWO = ("the library for C programs", "the scripts, each growth refused", "a release, where no kit is", IN_C_UNPROVED), 4
 
 
-def with_long_ones_beside(named, lane, alone):
+def with_long_ones_beside(named, lane, alone=None):
     """These steps, of which the first begins the long ones if it makes what they run. What is to run alone of tests of C waits for its turn."""
     beside = {name: Beside(call, lane, alone if name == LONG[0] else None) for name, call, _ in named if name in LONG}
 

@@ -8,7 +8,6 @@ import shutil
 import signal
 import subprocess
 import sys
-import tempfile
 import time
 from concurrent.futures import ThreadPoolExecutor
 
@@ -107,22 +106,11 @@ class Gate:
         self.top, self.kind, self.number, self.total = top, kind, 0, 0
         self.passed, self.many, self.failed, self.begun = 0, 0, [], time.monotonic()
         self.progress = Progress()
-        self.last_times, self.times = times_on(self.file_of_times()), {}
-
-    def file_of_times(self):
-        return f"{cache_folder()}/gate-times.json"
+        self.times_at = f"{cache_folder()}/gate-times.json"
+        self.last_times, self.times = times_on(self.times_at), {}
 
     def tell(self, text):
         self.progress.tell(text)
-
-    def tell_lacking(self):
-        """Says what the machine lacks of the tools that steps run."""
-        for what, package in lacking_tools():
-            self.tell(f"gate: this machine lacks {what} (in Debian: {package}); what needs it fails")
-
-    def expected(self, name):
-        """How long the step took the last time on this machine, in words."""
-        return f", last time here {self.last_times[name]:.0f} s" if name in self.last_times else ""
 
     def least(self, name):
         found = re.search(rf"^{re.escape(name)}: (\d+)$", text_of(f"{self.top}/{LEAST}"), re.M)
@@ -134,7 +122,8 @@ class Gate:
         begun, before = time.monotonic(), processor_seconds() - Beside.used
         self.progress = Progress()
         self.progress.head = f"{self.number} of {self.total}, {name}: "
-        self.tell(f"gate: {self.number} of {self.total}, {name}{self.expected(name)} ..")
+        last = f", last time here {self.last_times[name]:.0f} s" if name in self.last_times else ""
+        self.tell(f"gate: {self.progress.head[:-2]}{last} ..")
         with self.progress.on_terminal():
             try:
                 found = call(self.progress)
@@ -148,14 +137,14 @@ class Gate:
         self.failed += [f"{name}: {it}" for it in found.failed]
         self.times[name] = took
         self.tell(
-            f"gate: {self.number} of {self.total}, {name}: {found.passed} passed, {found.many} failed, "
+            f"gate: {self.progress.head}{found.passed} passed, {found.many} failed, "
             f"{took:.0f} s{' beside others' if found.took else ''}, {used:.0f} s of processors"
         )
         return found.is_made
 
     def end(self):
         """Tells what failed, by its names, and counts. It returns the exit status."""
-        keep_times(self.file_of_times(), {**self.last_times, **self.times})
+        keep_times(self.times_at, {**self.last_times, **self.times})
         for it in self.failed:
             self.tell(f"failed: {it}")
         if self.kind == "quick":
@@ -177,11 +166,8 @@ def lacking_tools():
 
 
 def compiles_with(compiler, flag):
-    with tempfile.TemporaryDirectory() as room:
-        with open(f"{room}/main.c", "w", encoding="ascii") as file:
-            file.write("int main(void) { return 0; }\n")
-        words = [compiler, flag, "-o", f"{room}/main", f"{room}/main.c"]
-        return subprocess.run(words, stdin=subprocess.DEVNULL, capture_output=True, check=False).returncode == 0
+    words = [compiler, flag, "-x", "c", "-", "-o", os.devnull]
+    return subprocess.run(words, input=b"int main(void) { return 0; }", capture_output=True, check=False).returncode == 0
 
 
 def times_on(path):
