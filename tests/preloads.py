@@ -28,3 +28,24 @@ def preloaded(library, told, words, **environment):
     """The words that run these with the library, and with this in the environment. What it tells comes into the file `told`."""
     given = [f"{name}={value}" for name, value in {"LD_PRELOAD": library, **environment}.items()]
     return ["bash", "-c", 'exec 9>"$0"; exec env "$@"', told, *given, *words]
+
+
+def told_by(library, words, stdin=subprocess.DEVNULL, stderr=None, **environment):
+    """The exit status of these words with the library, what they wrote, and what it told."""
+    with tempfile.NamedTemporaryFile() as told:
+        how = {"stdin": stdin, "stdout": subprocess.PIPE, "stderr": stderr, "check": False, "timeout": 600}
+        ran = subprocess.run(preloaded(library, told.name, words, **environment), **how)
+        return ran.returncode, ran.stdout, told.read()
+
+
+def count_allocations(library, words, **how):
+    """How many allocations these words make where none is refused."""
+    return int(told_by(library, words, stderr=subprocess.DEVNULL, REFUSE=0, **how)[2] or 0)
+
+
+def refusing(library, words, numbers, stdin=subprocess.DEVNULL):
+    """What comes of these words with each of these allocations refused in turn: the exit status, what was written and what was said."""
+    environment = {**os.environ, "LD_PRELOAD": library, "REFUSE": "0", "EACH": "".join(f"{it} " for it in numbers)}
+    ran = subprocess.run(words, env=environment, stdin=stdin, capture_output=True, check=False)
+    written, said = (it.split(b"\0")[:-1] for it in (ran.stdout, ran.stderr))
+    return [(os.waitstatus_to_exitcode(int(it[1])), it[0], it[2]) for it in zip(written[::2], written[1::2], said)]

@@ -1,6 +1,8 @@
 /* Counts a program's allocations and the bytes that they take, and refuses one of them. Preloaded by tests/growths/count and others.
    REFUSE: the number of the allocation that is refused, counting from 1; 0 for none. The count goes to descriptor 9, or where BYTES is
-   set the most bytes that were in use at one time. */
+   set the most bytes that were in use at one time.
+   EACH: several such numbers, each with a space after it. The program is begun once, and runs on from there for each, since to begin it
+   takes longer than what it does. After each run both outputs have a zero byte, and standard output its status and another one. */
 /* The C library, declared here, so that a machine without its headers can compile this. */
 typedef unsigned long size_t;
 extern char *getenv(const char *);
@@ -8,6 +10,10 @@ extern long atol(const char *);
 extern int snprintf(char *, size_t, const char *, ...);
 extern void *memcpy(void *, const void *, size_t);
 extern long write(int, const void *, size_t);
+extern long strtol(const char *, char **, int);
+extern int fork(void);
+extern int waitpid(int, int *, int);
+extern unsigned alarm(unsigned);
 extern long syscall(long, ...);
 extern int *__errno_location(void);
 extern void *__libc_malloc(size_t);
@@ -153,4 +159,22 @@ void _exit(int status)
     tell();
     for (;;)
         syscall(231 /* exit_group */, status);
+}
+
+/* Here, before its main, a program runs on for each of several numbers. One that hangs is ended after ten minutes. */
+__attribute__((constructor)) static void run_each(void)
+{
+    char text[32], *word = getenv("EACH");
+    while (word && *word) {
+        refused = strtol(word, &word, 10);
+        int status = 0, child = fork();
+        if (!child) {
+            alarm(600);
+            return;
+        }
+        waitpid(child, &status, 0);
+        int length = snprintf(text, sizeof text, "%c%d%c", 0, status, 0);
+        if (write(1, text, (size_t)length) < length || write(2, text, 1) < 1 || !*++word)
+            _exit(1);
+    }
 }
