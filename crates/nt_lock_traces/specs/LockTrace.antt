@@ -165,6 +165,10 @@ RoomFor under kind = Unit {0}
 abbrev pub HasRoom : Lock.State → LockEvent → Type 0
 HasRoom s e = RoomFor (s.seats e.thread).under e.kind
 
+-- the run has come to this state, with as many threads
+abbrev pub Becomes : LockRun → Lock.State → LockRun → Type 0
+Becomes old s new = (state_of new ≡ s) × (length new.seats.items ≡ length old.seats.items)
+
 -- whether such a step comes next: if so it has, and if not it can't, and nothing changes
 abbrev pub Reads : LockRun → Step Lock.State → LockRun → Bool → Type 0
 Reads old e new comes =

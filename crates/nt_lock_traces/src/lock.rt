@@ -84,6 +84,14 @@ pub struct Seat {
     pub under: Option<Frame>,
 }
 
+/// A thread that has not asked for the lock.
+pub(crate) const OUTSIDE: Seat = Seat {
+    place: LockPlace::Out,
+    inside: false,
+    buffer: Buffer::Empty,
+    under: None,
+};
+
 /// An event: the thread that does it, and the other one that it names, if it names one.
 #[derive(Clone, Copy, Debug, PartialEq, Eq)]
 pub struct LockEvent {

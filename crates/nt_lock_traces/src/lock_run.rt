@@ -1,12 +1,12 @@
 //! A run of the lock that favours a thread, one event at a time.
 
-ghost use Rattle.std.specs.Prelude.{◌≡◌, ◌∷◌, [], ◌≢◌, ◌<◌, ◌≤◌, ◌↔◌, ℕ, IsTrue, IsFalse, IfOk, OnOk, length, true, false};
+ghost use Rattle.std.specs.Prelude.{◌≡◌, ◌∷◌, [], ◌≢◌, ◌<◌, ◌≤◌, ◌↔◌, ℕ, IsTrue, IsFalse, IfOk, OnOk, length, get_or, true, false};
 ghost use Rattle.nt_protocols.specs.Lock as Lock;
 ghost use Rattle.nt_protocols.specs.Threads.{put};
 ghost use Rattle.nt_lock_traces.specs.LockMoves as Moves;
-ghost use Rattle.nt_lock_traces.specs.LockTrace.{arrives, frame_of, state_of, seat_of, place_of, lock_of, under_of, Reads, Holds};
+ghost use Rattle.nt_lock_traces.specs.LockTrace.{arrives, frame_of, outside, state_of, seat_of, place_of, lock_of, under_of, Becomes, Reads, Holds};
 
-use crate::lock::{Buffer, Frame, LockPlace, LockWord, Seat, frame_place};
+use crate::lock::{Buffer, Frame, LockPlace, LockWord, OUTSIDE, Seat, frame_place};
 use crate::lock_test::LockTest;
 
 /// The lock and its threads, as the events that were read have led to them.
@@ -17,11 +17,20 @@ pub struct LockRun {
 }
 
 impl LockRun {
+    /// What there is of thread t.
+    fn seat(&self, t: usize) -> Seat
+        ensures { result ≡ get_or self.now.seats.items t outside }
+    {
+        match self.seats.get(t) {
+            Some(seat) => *seat,
+            None => OUTSIDE,
+        }
+    }
+
     fn is_at(&self, t: usize, place: LockPlace) -> bool
-        requires { t < length self.now.seats.items }
         ensures { IsTrue result ↔ Lock.IsAt (state_of self.now) t (place_of place) }
     {
-        self.seats[t].place == place
+        self.seat(t).place == place
     }
 
     fn holds(&self, test: LockTest) -> bool
@@ -36,10 +45,9 @@ impl LockRun {
 
     /// The plain stores of thread t have arrived.
     fn is_drained(&self, t: usize) -> bool
-        requires { t < length self.now.seats.items }
         ensures { IsTrue result ↔ Lock.IsDrained (state_of self.now) t }
     {
-        self.seats[t].buffer == Buffer::Empty
+        self.seat(t).buffer == Buffer::Empty
     }
 
     /// No thread is at this place.
@@ -68,8 +76,7 @@ impl LockRun {
 
     fn goes(&mut self, t: usize, place: LockPlace)
         requires { t < length self.old.seats.items }
-        ensures state { state_of self.new ≡ Lock.goes (state_of self.old) t (place_of place) }
-        ensures len { length self.new.seats.items ≡ length self.old.seats.items }
+        ensures { Becomes self.old (Lock.goes (state_of self.old) t (place_of place)) self.new }
     {
         let seat = self.seats[t];
         self.set(t, Seat { place, ..seat });
@@ -77,8 +84,7 @@ impl LockRun {
 
     fn makes(&mut self, t: usize, lock: LockWord, place: LockPlace)
         requires { t < length self.old.seats.items }
-        ensures state { state_of self.new ≡ Lock.makes (state_of self.old) t (lock_of lock) (place_of place) }
-        ensures len { length self.new.seats.items ≡ length self.old.seats.items }
+        ensures { Becomes self.old (Lock.makes (state_of self.old) t (lock_of lock) (place_of place)) self.new }
     {
         self.lock = lock;
         self.goes(t, place);
@@ -86,8 +92,7 @@ impl LockRun {
 
     fn stores(&mut self, t: usize, inside: bool, place: LockPlace)
         requires { t < length self.old.seats.items }
-        ensures state { state_of self.new ≡ Lock.stores (state_of self.old) t inside (place_of place) }
-        ensures len { length self.new.seats.items ≡ length self.old.seats.items }
+        ensures { Becomes self.old (Lock.stores (state_of self.old) t inside (place_of place)) self.new }
     {
         let seat = self.seats[t];
         self.set(
@@ -102,8 +107,7 @@ impl LockRun {
 
     fn clears(&mut self, t: usize)
         requires { t < length self.old.seats.items }
-        ensures state { state_of self.new ≡ Lock.clears (state_of self.old) t }
-        ensures len { length self.new.seats.items ≡ length self.old.seats.items }
+        ensures { Becomes self.old (Lock.clears (state_of self.old) t) self.new }
     {
         let seat = self.seats[t];
         self.set(
@@ -118,8 +122,7 @@ impl LockRun {
 
     fn arrives(&mut self, t: usize, inside: bool)
         requires { t < length self.old.seats.items }
-        ensures state { state_of self.new ≡ arrives (state_of self.old) t inside }
-        ensures len { length self.new.seats.items ≡ length self.old.seats.items }
+        ensures { Becomes self.old (arrives (state_of self.old) t inside) self.new }
     {
         let seat = self.seats[t];
         self.set(
@@ -135,8 +138,7 @@ impl LockRun {
     fn wakes(&mut self, t: usize, u: usize, then: LockPlace, to: LockPlace)
         requires t { t < length self.old.seats.items }
         requires u { u < length self.old.seats.items }
-        ensures state { state_of self.new ≡ Lock.wakes (state_of self.old) t u (place_of then) (place_of to) }
-        ensures len { length self.new.seats.items ≡ length self.old.seats.items }
+        ensures { Becomes self.old (Lock.wakes (state_of self.old) t u (place_of then) (place_of to)) self.new }
     {
         self.goes(u, then);
         self.goes(t, to);
@@ -145,8 +147,7 @@ impl LockRun {
     /// Its handler begins or ends: it is there, and has interrupted this.
     fn frames(&mut self, t: usize, place: LockPlace, under: Option<Frame>)
         requires { t < length self.old.seats.items }
-        ensures state { state_of self.new ≡ Lock.frames (state_of self.old) t (place_of place) (under_of under) }
-        ensures len { length self.new.seats.items ≡ length self.old.seats.items }
+        ensures { Becomes self.old (Lock.frames (state_of self.old) t (place_of place) (under_of under)) self.new }
     {
         let seat = self.seats[t];
         self.set(
@@ -355,18 +356,16 @@ impl LockRun {
 
     /// A handler has interrupted thread t.
     pub(crate) fn is_handling(&self, t: usize) -> bool
-        requires { t < length self.now.seats.items }
         ensures { IsFalse result ↔ (((state_of self.now).seats t).under ≡ []) }
     {
-        self.seats[t].under.is_some()
+        self.seat(t).under.is_some()
     }
 
     /// A handler has interrupted thread t where it was so.
     fn is_under(&self, t: usize, frame: Frame) -> bool
-        requires { t < length self.now.seats.items }
         ensures { IsTrue result ↔ (((state_of self.now).seats t).under ≡ frame_of frame ∷ []) }
     {
-        self.seats[t].under == Some(frame)
+        self.seat(t).under == Some(frame)
     }
 
     /// A handler begins.

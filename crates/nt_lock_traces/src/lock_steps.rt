@@ -11,7 +11,7 @@ use crate::lock::LockPlace::{
     ToWakeRevoker,
 };
 use crate::lock::LockWord::{Favours, Free, Taken, Wanted};
-use crate::lock::{Buffer, LockEvent, LockPlace, Seat};
+use crate::lock::{LockEvent, LockPlace, OUTSIDE};
 use crate::lock_kinds::{
     ArrivingStep, FavouredStep, HandlingStep, LockKind, OwningStep, RevokingStep, SleepingStep,
     TakingStep,
@@ -19,14 +19,6 @@ use crate::lock_kinds::{
 use crate::lock_run::LockRun;
 use crate::lock_test::LockTest::{Is, IsHeld, IsNot};
 use std::alloc::{AllocError, Global};
-
-/// A thread that has not asked for the lock.
-const OUTSIDE: Seat = Seat {
-    place: Out,
-    inside: false,
-    buffer: Buffer::Empty,
-    under: None,
-};
 
 /// Where a thread is that has revoked n's favour: of its own it needs no barrier.
 fn revoking(t: usize, n: usize, once: bool) -> LockPlace
@@ -53,7 +45,6 @@ impl LockRun {
 
     /// A thread's handler may begin: it is in none.
     fn has_room(&self, kind: LockKind, t: usize) -> bool
-        requires { t < length self.now.seats.items }
         ensures { IsTrue result ↔ RoomFor ((state_of self.now).seats t).under kind }
     {
         match kind {

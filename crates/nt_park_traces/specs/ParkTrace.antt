@@ -114,6 +114,14 @@ event_of ParkKind.Returns t u = Protocol.Event.Returns t
 abbrev pub IsWithin : ℕ → ParkEvent → Type 0
 IsWithin threads e = (e.thread < threads) × (e.other < threads) × (e.other < MOST_PARKED)
 
+-- the run has come to this state, with as many threads
+abbrev pub Becomes : ParkRun → Protocol.State → ParkRun → Type 0
+Becomes old s new = (state_of new ≡ s) × (length new.seats.items ≡ length old.seats.items)
+
+-- the run has made the protocol's step, with nothing counted
+abbrev pub Makes : ParkRun → Protocol.Event → ParkRun → Type 0
+Makes old event new = Becomes old (uncounted (Protocol.step (state_of old) event).after) new
+
 -- whether such a step comes next: if so it has, and if not it can't, and nothing changes
 abbrev pub Reads : ParkRun → Step Protocol.State → ParkRun → Bool → Type 0
 Reads old e new comes =

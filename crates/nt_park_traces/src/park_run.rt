@@ -5,7 +5,7 @@ ghost use Rattle.nt_protocols.specs.Parking as Protocol;
 ghost use Rattle.nt_protocols.specs.Threads.{put};
 ghost use Rattle.nt_park_traces.specs.declared.park.TheConstants.{MOST_PARKED};
 ghost use Rattle.nt_park_traces.specs.ParkMoves.{HasUnparked, NobodyCounts};
-ghost use Rattle.nt_park_traces.specs.ParkTrace.{AsIfCounted, outside, place_of, seat_of, standing_of, state_of, uncounted, uncounted_seat};
+ghost use Rattle.nt_park_traces.specs.ParkTrace.{AsIfCounted, Becomes, Makes, outside, place_of, seat_of, standing_of, state_of, uncounted, uncounted_seat};
 
 use crate::park::{ParkPlace, ParkSeat, ParkStanding};
 
@@ -191,8 +191,7 @@ impl ParkRun {
     pub(crate) fn becomes(&mut self, t: usize, seat: ParkSeat)
         requires t { t < length self.old.seats.items }
         requires owes { seat.owes ≡ (get_or self.old.seats.items t outside).owes }
-        ensures state { state_of self.new ≡ Protocol.becomes (state_of self.old) t (seat_of seat) }
-        ensures len { length self.new.seats.items ≡ length self.old.seats.items }
+        ensures { Becomes self.old (Protocol.becomes (state_of self.old) t (seat_of seat)) self.new }
     {
         self.set(t, seat);
     }
@@ -201,8 +200,7 @@ impl ParkRun {
     fn owe(&mut self, t: usize, u: usize, owed: bool)
         requires t { t < length self.old.seats.items }
         requires u { u < MOST_PARKED }
-        ensures state { state_of self.new ≡ Protocol.owing (state_of self.old) t u owed }
-        ensures len { length self.new.seats.items ≡ length self.old.seats.items }
+        ensures { Becomes self.old (Protocol.owing (state_of self.old) t u owed) self.new }
     {
         let mut seat = self.seat(t);
         seat.owes[u] = owed;
@@ -211,8 +209,7 @@ impl ParkRun {
 
     pub(crate) fn goes(&mut self, t: usize, place: ParkPlace)
         requires { t < length self.old.seats.items }
-        ensures state { state_of self.new ≡ uncounted (Protocol.goes (state_of self.old) t (place_of place)) }
-        ensures len { length self.new.seats.items ≡ length self.old.seats.items }
+        ensures { Becomes self.old (uncounted (Protocol.goes (state_of self.old) t (place_of place))) self.new }
     {
         let seat = self.seat(t);
         self.becomes(t, ParkSeat { place, ..seat });
@@ -221,8 +218,8 @@ impl ParkRun {
     /// Thread t goes to this place, and the latch is so from now on.
     pub(crate) fn latches(&mut self, t: usize, place: ParkPlace, latch: bool)
         requires { t < length self.old.seats.items }
-        ensures state { state_of self.new ≡ uncounted (record (Protocol.goes (state_of self.old) t (place_of place)) { latch = latch }) }
-        ensures len { length self.new.seats.items ≡ length self.old.seats.items }
+        ensures { Becomes self.old
+            (uncounted (record (Protocol.goes (state_of self.old) t (place_of place)) { latch = latch })) self.new }
     {
         self.goes(t, place);
         self.latch = latch;
@@ -231,8 +228,7 @@ impl ParkRun {
     /// It waits while the value is this one.
     pub(crate) fn counts(&mut self, t: usize, expected: usize)
         requires { t < length self.old.seats.items }
-        ensures state { state_of self.new ≡ uncounted (Protocol.step (state_of self.old) (Protocol.Event.Counts t expected)).after }
-        ensures len { length self.new.seats.items ≡ length self.old.seats.items }
+        ensures { Makes self.old (Protocol.Event.Counts t expected) self.new }
     {
         let seat = self.seat(t);
         self.becomes(
@@ -247,8 +243,7 @@ impl ParkRun {
 
     pub(crate) fn changes(&mut self, t: usize, value: usize)
         requires { t < length self.old.seats.items }
-        ensures state { state_of self.new ≡ uncounted (Protocol.step (state_of self.old) (Protocol.Event.Changes t value)).after }
-        ensures len { length self.new.seats.items ≡ length self.old.seats.items }
+        ensures { Makes self.old (Protocol.Event.Changes t value) self.new }
     {
         self.goes(t, ParkPlace::ToCheck(true));
         self.value = value;
@@ -256,8 +251,7 @@ impl ParkRun {
 
     pub(crate) fn parks(&mut self, t: usize)
         requires { t < length self.old.seats.items }
-        ensures state { state_of self.new ≡ uncounted (Protocol.step (state_of self.old) (Protocol.Event.Parks t)).after }
-        ensures len { length self.new.seats.items ≡ length self.old.seats.items }
+        ensures { Makes self.old (Protocol.Event.Parks t) self.new }
     {
         let seat = self.seat(t);
         self.becomes(
@@ -273,8 +267,7 @@ impl ParkRun {
 
     pub(crate) fn dozes(&mut self, t: usize)
         requires { t < length self.old.seats.items }
-        ensures state { state_of self.new ≡ uncounted (Protocol.step (state_of self.old) (Protocol.Event.FallsAsleep t)).after }
-        ensures len { length self.new.seats.items ≡ length self.old.seats.items }
+        ensures { Makes self.old (Protocol.Event.FallsAsleep t) self.new }
     {
         let place = dozed(self.seat(t).parked);
         self.goes(t, place);
@@ -282,8 +275,7 @@ impl ParkRun {
 
     pub(crate) fn reads(&mut self, t: usize)
         requires { t < length self.old.seats.items }
-        ensures state { state_of self.new ≡ uncounted (Protocol.step (state_of self.old) (Protocol.Event.Reads t)).after }
-        ensures len { length self.new.seats.items ≡ length self.old.seats.items }
+        ensures { Makes self.old (Protocol.Event.Reads t) self.new }
     {
         let seat = read(self.seat(t));
         self.becomes(t, seat);
@@ -291,8 +283,7 @@ impl ParkRun {
 
     pub(crate) fn leaves(&mut self, t: usize)
         requires { t < length self.old.seats.items }
-        ensures state { state_of self.new ≡ uncounted (Protocol.step (state_of self.old) (Protocol.Event.Leaves t)).after }
-        ensures len { length self.new.seats.items ≡ length self.old.seats.items }
+        ensures { Makes self.old (Protocol.Event.Leaves t) self.new }
     {
         let seat = read_again(self.seat(t));
         self.becomes(t, seat);
@@ -301,8 +292,7 @@ impl ParkRun {
     /// Thread t takes u off the list.
     pub(crate) fn takes_off(&mut self, t: usize, u: usize)
         requires { u < length self.old.seats.items }
-        ensures state { state_of self.new ≡ uncounted (Protocol.step (state_of self.old) (Protocol.Event.TakesOff t u false)).after }
-        ensures len { length self.new.seats.items ≡ length self.old.seats.items }
+        ensures { Makes self.old (Protocol.Event.TakesOff t u false) self.new }
     {
         let seat = self.seat(u);
         self.becomes(
@@ -318,8 +308,7 @@ impl ParkRun {
         requires t { t < length self.old.seats.items }
         requires u { u < length self.old.seats.items }
         requires most { u < MOST_PARKED }
-        ensures state { state_of self.new ≡ uncounted (Protocol.step (state_of self.old) (Protocol.Event.Unparks t u)).after }
-        ensures len { length self.new.seats.items ≡ length self.old.seats.items }
+        ensures { Makes self.old (Protocol.Event.Unparks t u) self.new }
     {
         let seat = self.seat(u);
         self.becomes(
@@ -337,8 +326,7 @@ impl ParkRun {
         requires t { t < length self.old.seats.items }
         requires u { u < length self.old.seats.items }
         requires most { u < MOST_PARKED }
-        ensures state { state_of self.new ≡ uncounted (Protocol.step (state_of self.old) (Protocol.Event.Wakes t u)).after }
-        ensures len { length self.new.seats.items ≡ length self.old.seats.items }
+        ensures { Makes self.old (Protocol.Event.Wakes t u) self.new }
     {
         let seat = self.seat(u);
         let place = woken(seat.place);

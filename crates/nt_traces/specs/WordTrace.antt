@@ -88,6 +88,14 @@ event_of WordKind.Wakes t u = Protocol.Event.Wakes t u
 abbrev pub IsWithin : ℕ → WordEvent → Type 0
 IsWithin threads e = (e.thread < threads) × (e.other < threads) × (e.other < MOST_SEATS)
 
+-- the run has come to this state, with as many threads
+abbrev pub Becomes : WordRun → Protocol.State → WordRun → Type 0
+Becomes old s new = (state_of new ≡ s) × (length new.seats.items ≡ length old.seats.items)
+
+-- the run has made the protocol's step, with nothing counted
+abbrev pub Makes : WordRun → Protocol.Event → WordRun → Type 0
+Makes old event new = Becomes old (uncounted (Protocol.step (state_of old) event).after) new
+
 -- whether such a step comes next: if so it has, and if not it can't, and nothing changes
 abbrev pub Reads : WordRun → Step Protocol.State → WordRun → Bool → Type 0
 Reads old e new comes =

@@ -4,7 +4,7 @@ ghost use Rattle.std.specs.Prelude.{◌≡◌, ◌<◌, ◌↔◌, ◌+◌, ◌|
 ghost use Rattle.nt_protocols.specs.Word as Protocol;
 ghost use Rattle.nt_protocols.specs.Threads.{put};
 ghost use Rattle.nt_traces.specs.declared.word.TheConstants.{MOST_SEATS};
-ghost use Rattle.nt_traces.specs.WordTrace.{AsIfCounted, outside, owing, place_of, seat_of, state_of, uncounted, uncounted_seat, word_of};
+ghost use Rattle.nt_traces.specs.WordTrace.{AsIfCounted, Becomes, Makes, outside, owing, place_of, seat_of, state_of, uncounted, uncounted_seat, word_of};
 
 use crate::word::{WordPlace, WordSeat, WordValue};
 
@@ -151,8 +151,7 @@ impl WordRun {
     pub(crate) fn becomes(&mut self, t: usize, seat: WordSeat)
         requires t { t < length self.old.seats.items }
         requires owes { seat.owes ≡ (get_or self.old.seats.items t outside).owes }
-        ensures state { state_of self.new ≡ Protocol.becomes (state_of self.old) t (seat_of seat) }
-        ensures len { length self.new.seats.items ≡ length self.old.seats.items }
+        ensures { Becomes self.old (Protocol.becomes (state_of self.old) t (seat_of seat)) self.new }
     {
         self.set(t, seat);
     }
@@ -161,8 +160,7 @@ impl WordRun {
     fn owe(&mut self, t: usize, u: usize, owed: bool)
         requires t { t < length self.old.seats.items }
         requires u { u < MOST_SEATS }
-        ensures state { state_of self.new ≡ owing (state_of self.old) t u owed }
-        ensures len { length self.new.seats.items ≡ length self.old.seats.items }
+        ensures { Becomes self.old (owing (state_of self.old) t u owed) self.new }
     {
         let mut seat = self.seat(t);
         seat.owes[u] = owed;
@@ -171,8 +169,7 @@ impl WordRun {
 
     pub(crate) fn goes(&mut self, t: usize, place: WordPlace)
         requires { t < length self.old.seats.items }
-        ensures state { state_of self.new ≡ uncounted (Protocol.goes (state_of self.old) t (place_of place)) }
-        ensures len { length self.new.seats.items ≡ length self.old.seats.items }
+        ensures { Becomes self.old (uncounted (Protocol.goes (state_of self.old) t (place_of place))) self.new }
     {
         let seat = self.seat(t);
         self.becomes(t, WordSeat { place, ..seat });
@@ -181,8 +178,7 @@ impl WordRun {
     /// Its wait pends from now on.
     pub(crate) fn begins(&mut self, t: usize)
         requires { t < length self.old.seats.items }
-        ensures state { state_of self.new ≡ uncounted (Protocol.step (state_of self.old) (Protocol.Event.Begins t)).after }
-        ensures len { length self.new.seats.items ≡ length self.old.seats.items }
+        ensures { Makes self.old (Protocol.Event.Begins t) self.new }
     {
         let seat = self.seat(t);
         self.becomes(
@@ -199,8 +195,7 @@ impl WordRun {
 
     pub(crate) fn marks(&mut self, t: usize)
         requires { t < length self.old.seats.items }
-        ensures state { state_of self.new ≡ uncounted (Protocol.step (state_of self.old) (Protocol.Event.Marks t)).after }
-        ensures len { length self.new.seats.items ≡ length self.old.seats.items }
+        ensures { Makes self.old (Protocol.Event.Marks t) self.new }
     {
         let seat = marked(self.seat(t));
         self.becomes(t, seat);
@@ -208,8 +203,7 @@ impl WordRun {
 
     pub(crate) fn reads(&mut self, t: usize)
         requires { t < length self.old.seats.items }
-        ensures state { state_of self.new ≡ uncounted (Protocol.step (state_of self.old) (Protocol.Event.Reads t)).after }
-        ensures len { length self.new.seats.items ≡ length self.old.seats.items }
+        ensures { Makes self.old (Protocol.Event.Reads t) self.new }
     {
         let seat = told(self.seat(t));
         self.becomes(t, seat);
@@ -217,8 +211,7 @@ impl WordRun {
 
     pub(crate) fn dozes(&mut self, t: usize)
         requires { t < length self.old.seats.items }
-        ensures state { state_of self.new ≡ uncounted (Protocol.step (state_of self.old) (Protocol.Event.FallsAsleep t)).after }
-        ensures len { length self.new.seats.items ≡ length self.old.seats.items }
+        ensures { Makes self.old (Protocol.Event.FallsAsleep t) self.new }
     {
         let place = dozed(self.seat(t).word);
         self.goes(t, place);
@@ -227,9 +220,8 @@ impl WordRun {
     /// It has looked at the time, and is at this place.
     pub(crate) fn looks(&mut self, t: usize, place: WordPlace)
         requires { t < length self.old.seats.items }
-        ensures state { state_of self.new ≡ uncounted (Protocol.becomes (state_of self.old) t
-            (Protocol.looked ((state_of self.old).seats t) (place_of place))) }
-        ensures len { length self.new.seats.items ≡ length self.old.seats.items }
+        ensures { Becomes self.old (uncounted (Protocol.becomes (state_of self.old) t
+            (Protocol.looked ((state_of self.old).seats t) (place_of place)))) self.new }
     {
         let seat = self.seat(t);
         let word = in_time(seat.word);
@@ -249,9 +241,8 @@ impl WordRun {
         requires t { t < length self.old.seats.items }
         requires u { u < length self.old.seats.items }
         requires most { u < MOST_SEATS }
-        ensures state { state_of self.new ≡ owing (state_of self.old) t u
-            ((state_of self.old).owes t u || Protocol.is_asleep ((state_of self.old).seats u).word) }
-        ensures len { length self.new.seats.items ≡ length self.old.seats.items }
+        ensures { Becomes self.old (owing (state_of self.old) t u
+            ((state_of self.old).owes t u || Protocol.is_asleep ((state_of self.old).seats u).word)) self.new }
     {
         let owed = self.owes(t, u) || self.seat(u).word == WordValue::Asleep;
         self.owe(t, u, owed);
@@ -261,8 +252,7 @@ impl WordRun {
         requires t { t < length self.old.seats.items }
         requires u { u < length self.old.seats.items }
         requires most { u < MOST_SEATS }
-        ensures state { state_of self.new ≡ uncounted (Protocol.step (state_of self.old) (Protocol.Event.Grants t u)).after }
-        ensures len { length self.new.seats.items ≡ length self.old.seats.items }
+        ensures { Makes self.old (Protocol.Event.Grants t u) self.new }
     {
         self.told_by(t, u);
         let seat = self.seat(u);
@@ -280,8 +270,7 @@ impl WordRun {
         requires t { t < length self.old.seats.items }
         requires u { u < length self.old.seats.items }
         requires most { u < MOST_SEATS }
-        ensures state { state_of self.new ≡ uncounted (Protocol.step (state_of self.old) (Protocol.Event.Calls t u)).after }
-        ensures len { length self.new.seats.items ≡ length self.old.seats.items }
+        ensures { Makes self.old (Protocol.Event.Calls t u) self.new }
     {
         self.told_by(t, u);
         let seat = self.seat(u);
@@ -299,8 +288,7 @@ impl WordRun {
         requires t { t < length self.old.seats.items }
         requires u { u < length self.old.seats.items }
         requires most { u < MOST_SEATS }
-        ensures state { state_of self.new ≡ uncounted (Protocol.step (state_of self.old) (Protocol.Event.Wakes t u)).after }
-        ensures len { length self.new.seats.items ≡ length self.old.seats.items }
+        ensures { Makes self.old (Protocol.Event.Wakes t u) self.new }
     {
         self.owe(t, u, false);
         let seat = self.seat(u);

@@ -2,8 +2,10 @@ use Rattle.nt_protocols.specs.Lock as Lock
 use Rattle.nt_lock_traces.proofs.LockSeats.{one_changed}
 use Rattle.nt_lock_traces.proofs.lock_run.LockRun.arrives.Goals as goal
 
-pub returns-clause-state : goal.returns-clause-state
-returns-clause-state c =
-    one_changed c.args.self.now c.set.new.self c.args.t c.index-seat.result.now
-    (λ (a : Lock.Seat). record a { inside = c.args.inside; buffer = Lock.Buffer.Empty })
-    c.requires c.index-seat.ensures c.set.ensures.lock c.set.ensures.seats
+pub returns : goal.returns
+returns c = (
+  one_changed c.args.self.now c.set.new.self c.args.t c.index-seat.result.now
+      (λ (a : Lock.Seat). record a { inside = c.args.inside; buffer = Lock.Buffer.Empty })
+      c.requires c.index-seat.ensures c.set.ensures.lock c.set.ensures.seats,
+  c.set.ensures.len,
+)

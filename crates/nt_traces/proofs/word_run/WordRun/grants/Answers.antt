@@ -5,12 +5,14 @@ use Rattle.nt_traces.specs.WordTrace.{seat_of, state_of}
 use Rattle.nt_traces.proofs.WordSeats.{told_uncounted}
 use Rattle.nt_traces.proofs.word_run.WordRun.grants.Goals as goal
 
-pub returns-clause-state : goal.returns-clause-state
-returns-clause-state c =
+pub returns : goal.returns
+returns c =
     let s = state_of c.args.self.now in
     let u = c.args.u in
-    let same = ap seat_of c.seat-seat.ensures ∙ ap (λ (x : Protocol.State). x.seats u) c.told_by.ensures.state in
-    c.becomes.ensures.state
-    ∙ told_uncounted c.args.self.now (state_of c.told_by.new.self) c.args.t u (s.owes c.args.t u || Protocol.is_asleep (s.seats u).word)
-    (record (s.seats u) { word = Protocol.Word.Granted; pends = false; grants = (s.seats u).grants + 1 }) (record (seat_of c.seat-seat.result) { word = Protocol.Word.Granted; pends = false }) c.told_by.ensures.state
-    (ap (λ (a : Protocol.Seat). record a { word = Protocol.Word.Granted; pends = false }) same)
+    let same = ap seat_of c.seat-seat.ensures ∙ ap (λ (x : Protocol.State). x.seats u) c.told_by.ensures.0 in (
+      c.becomes.ensures.0
+          ∙ told_uncounted c.args.self.now (state_of c.told_by.new.self) c.args.t u (s.owes c.args.t u || Protocol.is_asleep (s.seats u).word)
+          (record (s.seats u) { word = Protocol.Word.Granted; pends = false; grants = (s.seats u).grants + 1 }) (record (seat_of c.seat-seat.result) { word = Protocol.Word.Granted; pends = false }) c.told_by.ensures.0
+          (ap (λ (a : Protocol.Seat). record a { word = Protocol.Word.Granted; pends = false }) same),
+      c.becomes.ensures.1 ∙ c.told_by.ensures.1,
+    )

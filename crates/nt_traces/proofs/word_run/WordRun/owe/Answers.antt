@@ -4,10 +4,12 @@ use Rattle.nt_traces.specs.WordTrace.{state_of}
 use Rattle.nt_traces.proofs.WordSeats.{owes_changed, seats_kept, state_is}
 use Rattle.nt_traces.proofs.word_run.WordRun.owe.Goals as goal
 
-pub returns-clause-state : goal.returns-clause-state
-returns-clause-state c =
+pub returns : goal.returns
+returns c =
     let s = state_of c.args.self.now in
-    let seats = c.args.self.now.seats.items in
-    state_is c.set.new.self s.seats (put s.owes c.args.t (put (s.owes c.args.t) c.args.u c.args.owed))
-    (c.set.ensures.seats ∙ seats_kept seats c.args.t c.seat-seat.result c.seat-seat.ensures)
-    (c.set.ensures.owes ∙ owes_changed seats c.args.t c.args.u c.args.owed c.seat-seat.result c.seat-seat.ensures (omega arith))
+    let seats = c.args.self.now.seats.items in (
+      state_is c.set.new.self s.seats (put s.owes c.args.t (put (s.owes c.args.t) c.args.u c.args.owed))
+          (c.set.ensures.seats ∙ seats_kept seats c.args.t c.seat-seat.result c.seat-seat.ensures)
+          (c.set.ensures.owes ∙ owes_changed seats c.args.t c.args.u c.args.owed c.seat-seat.result c.seat-seat.ensures (omega arith)),
+      c.set.ensures.len,
+    )
