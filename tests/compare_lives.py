@@ -9,10 +9,10 @@ import sys
 import building
 import kit
 from compare_scripts import Draw, Tally, shortened, told
+from failures import TOP
 from machine import NO_HANDLE, RIGHTS, Gone, Machine, Thread, kind_of
 from orders import Names
 
-TOP = os.path.dirname(os.path.dirname(os.path.realpath(__file__)))
 THREADS, TURNS = 7, 600
 NO_MORE_ITEMS, HANDLE_LIMIT = 259, 0x20000007
 NO_CODE = 3
@@ -45,11 +45,6 @@ class Life(Machine):
     def __init__(self, threads):
         super().__init__(threads)
         self.closed, self.unnamed, self.given = [], [], None
-
-    def copy(self):
-        other = super().copy()
-        other.__class__, other.closed, other.unnamed, other.given = Life, self.closed[:], self.unnamed[:], self.given
-        return other
 
     def is_vacant(self, number):
         return number >= self.threads and isinstance(self.objects[number], Gone)

@@ -11,6 +11,8 @@ import sys
 import threading
 
 TOP = os.path.dirname(os.path.dirname(os.path.realpath(__file__)))
+# Whoever imports this finds what stands once for all.
+sys.path[:0] = [f"{TOP}/{it}" for it in ("tests", "launcher", "proving", "bench")]
 
 
 def parser_of(doc, *, names="a part of the names of those that are to be run; all are, if none is given"):

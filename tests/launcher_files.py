@@ -7,7 +7,7 @@ import sys
 
 import building
 from failures import TOP
-from rows import rows_of
+from rows import blocks_of, rows_of, script_of
 
 EMPTY = "end: pending none\n"
 TEXTS, FILES, RUNS = rows_of("ntrun")
@@ -19,32 +19,16 @@ FILES |= {"utf16_be.nts": b"\xfe\xff" + SAMPLE.decode().encode("utf-16-be")}
 FILES |= {"bom.nts": b"\xef\xbb\xbf" + SAMPLE, "every_byte": bytes(range(256)) * 9, "no_lf": b"\x7fELF\x00" * 1000, "empty.nts": b""}
 FILES |= {"longest.nts": b"threads 1;" + b"x" * 4086 + b"\n", "too_long.nts": b"threads 1\nt0 event e ;" + b"x" * 4085 + b"\n"}
 _, LOOKED_AT, LOOKS = rows_of("ntlook")
-KNOT, CROSSED = LOOKED_AT["knot.nts"], LOOKED_AT["crossed.nts"]
+KNOT = LOOKED_AT["knot.nts"]
 LOOKED_AT |= {"crlf.nts": KNOT.replace(b"\n", b"\r\n"), "no_last_lf.nts": KNOT[:-1], "-dash.nts": KNOT, "fault.nts": KNOT + b"t0 sett m1\n"}
-LOOKED_AT |= {"outside.nts": KNOT.replace(b"threads 2", b"threads 3") + b"t2 event e\nt2 any inf plain e\n", "comments.nts": b"; nothing\n\n; but this"}
-LOOKED_AT |= {"crossed_crlf.nts": CROSSED.replace(b"\n", b"\r\n")}
+LOOKED_AT |= {"crossed_crlf.nts": LOOKED_AT["crossed.nts"].replace(b"\n", b"\r\n")}
 # More refused calls, and more names, than are told one by one.
 LOOKED_AT |= {"refusals.nts": b"threads 1\n" + b"t0 set 9\n" * 22, "names.nts": b"threads 1\n" + b"".join(b"t0 event %c%c\n" % (it, it) for it in b"abcdefghijklmnopqrstuv")}
-# With names that comments tell, wherever they stand: the last one counts.
-TITLED = CROSSED.replace(b"t0 mutex m1", b"; t0 is first\nt0 mutex m1\n; m1 is accounts") + b"; t0 is main\n; m2 of nobody\n"
 # A journal's objects have the numbers of their handles, and its file has room left.
-JOURNAL = b"threads 256\n; h256 is accounts\nt0 mutex h256\nt0 any inf plain 256\nt1 any inf plain 256\n" + bytes(9000)
-LOOKED_AT |= {"titled.nts": TITLED, "journal": JOURNAL}
+LOOKED_AT |= {"journal": b"threads 256\n; h256 is accounts\nt0 mutex h256\nt0 any inf plain 256\nt1 any inf plain 256\n" + bytes(9000)}
 # Scripts with the order that hangs, by hand: what is made before all calls and all lines that say nothing, and then the lines in that order, each as it
-# stands. In `spaced` t1 keeps the mutex and makes no call after its wait; of orders of one length the one in which t0 goes first is shown.
-SPACED = b"; h is held\nthreads 2\t; two\r\n\n  t1 mutex h owned ; t1's\nt0 event e\n"
-SPACED_CALLS = [b"t1  any inf plain e\t; t1 waits\n", b"t0 set \t e\n", b"t0 any inf plain h"]
-TITLES = b"; t0 is main\n; m2 of nobody\n"
-BEGUN = b"threads 2\nt0 event go\nt0 dup h t1 1048576\n; t1 is worker\nt0 reset go\nt0 pulse go\nt0 any inf plain h\nt1 any inf plain go\n"
-# (A refused creation is made again, and makes nothing there either.)
-AGAIN = b"threads 1\nt0 semaphore s 3 2\nt0 semaphore s 1 0\nt0 event s\nt0 sleep 0 plain\nt0 set s\nt0 any inf plain s\nt0 any inf plain s\n"
-ORDERS = [
-    ("crossed", CROSSED, KNOT),
-    ("titled", TITLED, KNOT.replace(b"t0 mutex m1", b"; t0 is first\nt0 mutex m1\n; m1 is accounts").replace(b"t0 mutex m2\n", b"t0 mutex m2\n" + TITLES)),
-    ("spaced", SPACED + b"; t0 is main\n".join(SPACED_CALLS), SPACED + b"; t0 is main\n" * 2 + b"\n".join([SPACED_CALLS[1][:-1], SPACED_CALLS[2], SPACED_CALLS[0]])),
-    ("begun", LOOKED_AT["begun.nts"], BEGUN),
-    ("late_again", LOOKED_AT["late_again.nts"], AGAIN),
-]
+# stands.
+ORDERS = [(script, script_of(block)) for kind, script, block in blocks_of("ntlook") if kind == "order"]
 # What standard streams of other kinds do. Each: what it is, a command, and what it gives.
 FAILED = (1, "", ["ntrun: line 7: write failed"])
 SHELLED = [
@@ -52,6 +36,8 @@ SHELLED = [
     ("no standard input", "sh", '"$0" script - <&-', (1, "", ["ntrun: cannot open", "<stdin>: No such file or directory"])),
     ("no standard error", "sh", '"$0" script no_such.nts 2>&-', (1, "", [])),
     ("no standard output for the version", "sh", '"$0" --version >&-', (1, "", ["ntrun: write failed"])),
+    # (where nobody reads the pipe, what feeds it is ended)
+    ("FILE is a named pipe", "sh", 'mkfifo pipe; timeout 10 sh -c "cat sample.nts >pipe" & "$0" script pipe', (0, TRANSCRIPT, [])),
     ("FILE is a process's output", "bash", '"$0" script <(cat sample.nts)', (0, TRANSCRIPT, [])),
 ]
 
@@ -85,15 +71,14 @@ def path_of(length):
 
 def long_paths(folder):
     """Writes a file for each length, so that a shorter path names another one. Each that is to be read: what it is, its path, and what is answered."""
+    # (from here none is longer than a path may be)
     here = os.open(folder, os.O_RDONLY)
-    for depth in range(LONGEST // PART):
-        for length in range(1, PART + 1):
-            with os.fdopen(os.open(b"n" * length, os.O_WRONLY | os.O_CREAT, dir_fd=here), "wb") as file:
-                file.write(script_of(depth * PART + length + 1))
-        os.mkdir(b"d" * (PART - 1), dir_fd=here)
-        inner = os.open(b"d" * (PART - 1), os.O_RDONLY, dir_fd=here)
-        os.close(here)
-        here = inner
+    for length in range(1, LONGEST + 1):
+        path = path_of(length)
+        if length % PART == 1 and length > PART:
+            os.mkdir(os.path.dirname(path), dir_fd=here)
+        with open(path, "wb", opener=lambda it, flags: os.open(it, flags, dir_fd=here)) as file:
+            file.write(script_of(length + 1))
     os.close(here)
     return [(f"a path of {it} bytes", path_of(it), answer_of(it + 1)) for it in LENGTHS]
 

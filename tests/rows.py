@@ -9,7 +9,8 @@ file after `| `, with escapes as in Python.
 - `words NAME` has command lines of the program itself, each after `$ ` as a shell reads it, with the script that they name. It ends with the `status`,
   or 0.
 - `run WHAT` is a run of a launcher: its words after `$ `, what is given on standard input after `< `, the exit status if it is not 0. `text NAME` is
-  a text that others name as @NAME at a line's end, and `file NAME` a file that the runs have before them.
+  a text that others name as @NAME at a line's end, and `file NAME` a file that the runs have before them. `order NAME` is the script that `ntlook
+  explore` writes of the order in which that file hangs.
 """
 import glob
 import os
@@ -51,11 +52,10 @@ def rows_of(name):
     """The texts of a file of rows, its files, and its runs: what each is, its words, what is given, and the status, what is written and what is said."""
     texts, files, runs = {}, {}, []
     for kind, head, block in blocks_of(name):
-        text = "".join(f"{named(unescaped(it), texts)}\n" for it in lines_of(block, "|"))
         if kind == "text":
-            texts[head] = text
+            texts[head] = "".join(f"{named(unescaped(it), texts)}\n" for it in lines_of(block, "|"))
         elif kind == "file":
-            files[head] = text.encode("latin-1")
+            files[head] = script_of(block)
         elif kind == "run":
             given = [files[it[1:]] if it.startswith("@") else f"{it}\n".encode() for it in lines_of(block, "<")]
             status = int("".join(lines_of(block, "status")) or 0)
