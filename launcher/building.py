@@ -15,7 +15,7 @@ import time
 TOP = os.path.dirname(os.path.dirname(os.path.realpath(__file__)))
 sys.path.append(f"{TOP}/proving")
 import kit
-from crates import Crate, crates_of, text_of
+from crates import Crate, crates_of, files_below, text_of
 from rooms import copy_texts
 from terminal import WHO, progress, say
 
@@ -119,44 +119,18 @@ def writer_once_read(pipe, reader):
     return None
 
 
-def program_that_reads(pipe, folder):
-    """The file below the folder that a process which has this pipe open, other than this one, has in its memory; None where there is none.
-
-    (It need not be the process's executable: a kit may start the program by the loader.)
-    """
-    for at in glob.glob("/proc/[0-9]*/fd/*"):
-        with contextlib.suppress(OSError):
-            process = at.partition("/fd/")[0]
-            if os.readlink(at) == pipe and process != f"/proc/{os.getpid()}":
-                with open(f"{process}/maps", encoding="utf-8", errors="surrogateescape") as maps:
-                    paths = (line[line.index("/") :].rstrip("\n") for line in maps if "/" in line)
-                    return next((it for it in paths if it.startswith(f"{folder}/")), None)
-    return None
-
-
-def program_once_it_reads(pipe, reader):
-    """The same, once it is there; None where the process that would read the pipe has ended before, or it is not there after some seconds. (A pipe
-    counts as open for reading before its reader has it.)"""
-    for _ in range(200):
-        found = program_that_reads(pipe, os.path.dirname(pipe))
-        if found or reader.poll() is not None:
-            return found
-        time.sleep(0.05)
-    return None
-
-
 def keep_once_run(builder, pipe, wanted):
-    """Copies the program that the builder runs while it waits for its script in the pipe, to `wanted`. Answers whether that was done, and what the
-    program wrote then."""
-    writer = writer_once_read(pipe, builder)
-    program = program_once_it_reads(pipe, builder) if writer is not None else None
-    if program:
-        shutil.copy(program, wanted)
-        os.chmod(wanted, 0o755)
+    """Copies the program that the builder runs while it waits for its script in the pipe, to `wanted`: the one file beside the pipe that can be run.
+    Answers whether that was done, and what the program wrote then."""
+    writer, programs = writer_once_read(pipe, builder), []
     if writer is not None:
+        programs = [it for it in files_below(os.path.dirname(pipe)) if os.access(it, os.X_OK)]
+        for it in programs[:1]:
+            shutil.copy(it, wanted)
+            os.chmod(wanted, 0o755)
         os.write(writer, b"threads 1\n")
         os.close(writer)
-    return bool(program), builder.communicate()[0]
+    return bool(programs), builder.communicate()[0]
 
 
 def try_and_keep(crate, words, wanted):
@@ -221,19 +195,13 @@ def keep_unproved():
         os.replace(f"{it.unproved}.new", it.unproved)
 
 
-def judge_room():
-    """Sees that there is room for what a build puts into the folder for temporary files."""
-    folder = tempfile.gettempdir()
-    free = shutil.disk_usage(folder).free
-    if free < ROOM:
-        raise NotBuilt(f"{folder} has room for {free >> 20} MB, and a build wants {ROOM >> 20} MB there: set TMPDIR to a folder with more")
-
-
 def build_unproved():
     """Builds both programs without proofs, and keeps them."""
     judged_rt()
-    judge_room()
-    began = time.time_ns()
+    began, folder = time.time_ns(), tempfile.gettempdir()
+    free = shutil.disk_usage(folder).free
+    if free < ROOM:
+        raise NotBuilt(f"{folder} has room for {free >> 20} MB, and a build wants {ROOM >> 20} MB there: set TMPDIR to a folder with more")
     say(f"{WHO}: building ntrun and ntlook without proofs, once for these sources; about {about_seconds()}")
     try:
         with progress("building", about_seconds()):

@@ -126,10 +126,7 @@ def run_and_show(built, words, what):
     with progress(what, how_far=teller_of(reader)):
         wrote, said = child.communicate()
     say(*said.splitlines())
-    status = child.returncode
-    if not write_all(wrote):
-        say(f"{built.name}: write failed")
-        status = 1
+    status = tell(built.name, wrote) or child.returncode
     return (128 - status if status < 0 else status), said
 
 

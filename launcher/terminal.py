@@ -10,24 +10,19 @@ WHO = f"./{os.path.basename(sys.argv[0])}"
 EVERY = 15  # seconds between two lines of progress, where no terminal shows it
 
 
-def say(*lines):
-    """Writes lines to standard error. A failure to write them is ignored."""
+def write(text):
+    """Writes to standard error. A failure to write is ignored."""
     with contextlib.suppress(OSError, AttributeError):
-        sys.stderr.buffer.write(b"".join(os.fsencode(it) + b"\n" for it in lines))
+        sys.stderr.buffer.write(os.fsencode(text))
         sys.stderr.buffer.flush()
 
 
+def say(*lines):
+    write(b"".join(os.fsencode(it) + b"\n" for it in lines))
+
+
 def is_terminal():
-    with contextlib.suppress(OSError, AttributeError, ValueError):
-        return os.isatty(sys.stderr.fileno())
-    return False
-
-
-def write(text):
-    """Writes to standard error, likewise."""
-    with contextlib.suppress(OSError, AttributeError):
-        sys.stderr.write(text)
-        sys.stderr.flush()
+    return bool(sys.stderr) and sys.stderr.isatty()
 
 
 @contextlib.contextmanager
