@@ -29,10 +29,6 @@ use Rattle.nt_life.specs.Lasting.{Spares, MakesCall, FindsNoneFor, IsUnchanged, 
 use Rattle.nt_life.specs.declared.begun.Begun.{Begun}
 use Rattle.nt_sleepers.specs.Sleepers.{LetsSleep, Sleeping, Woke}
 
--- a handle says that it has a dispatcher exactly where it has one
-abbrev pub IsFit : Nt → Type 0
-IsFit nt = nt.live ≡ is_some nt.cell.held
-
 -- the handle has the dispatcher and the sleepers that it had, or none as before
 abbrev pub Keeps : Nt → Nt → Type 0
 Keeps old new = new.cell.held ≡ old.cell.held

@@ -1,6 +1,6 @@
 //! Threads that begin in the places of those that have ended, and what is set aside for them.
 ghost use Rattle.std.specs.Prelude.{◌≡◌};
-ghost use Rattle.nt_c.specs.Asks.{IsFit, BeginsIn, PutsAsideIn, aside_error};
+ghost use Rattle.nt_c.specs.Asks.{BeginsIn, PutsAsideIn, aside_error};
 
 use crate::handle::Nt;
 use crate::numbers::{INVALID_HANDLE, NO_MORE};
@@ -21,8 +21,6 @@ pub struct NtBegun {
 /// again.
 #[unsafe(no_mangle)]
 pub extern "C" fn nt_begin(nt: &mut Nt, out: &mut NtBegun) -> u32
-    requires fit { IsFit nt.old }
-    ensures fit { IsFit nt.new }
     ensures begins { BeginsIn nt.old.cell.held result out.old out.new nt.new.cell.held }
 {
     if !nt.live {
@@ -55,8 +53,6 @@ fn error_of(aside: Result<ObjectNumber, Refusal>) -> u32
 /// again; with 536870919 if no object number is free and there are as many as handle numbers, and with 8 if memory is refused.
 #[unsafe(no_mangle)]
 pub extern "C" fn nt_set_aside(nt: &mut Nt, thread: u32) -> u32
-    requires fit { IsFit nt.old }
-    ensures fit { IsFit nt.new }
     ensures aside { PutsAsideIn nt.old.cell.held thread result nt.new.cell.held }
 {
     if !nt.live {

@@ -2,7 +2,7 @@
 ghost use Rattle.std.specs.Prelude.{None, Some};
 ghost use Rattle.nt_calls.specs.declared.call.Act.{Act};
 ghost use Rattle.nt_calls.specs.declared.call.Call.{Call};
-ghost use Rattle.nt_c.specs.Asks.{IsFit, Acts, AnswersCall};
+ghost use Rattle.nt_c.specs.Asks.{Acts, AnswersCall};
 
 use crate::handle::Nt;
 use crate::reply::{NtReply, tell};
@@ -13,8 +13,6 @@ impl Nt {
     /// Has this thread do the act, and tells C what is answered.
     #[inline(always)]
     fn act(&mut self, who: u32, act: Act, out: &mut NtReply) -> u32
-        requires fit { IsFit self.old }
-        ensures fit { IsFit self.new }
         ensures answers { Acts self.old who act result out.old out.new self.new }
     {
         tell(self.ask(who, &Call::Act(act)), out)
@@ -30,8 +28,6 @@ pub extern "C" fn nt_duplicate(
     access: u32,
     out: &mut NtReply,
 ) -> u32
-    requires fit { IsFit nt.old }
-    ensures fit { IsFit nt.new }
     ensures answers { Acts nt.old who (Act.Duplicate handle access) result out.old out.new nt.new }
 {
     let act = Act::Duplicate {
@@ -44,8 +40,6 @@ pub extern "C" fn nt_duplicate(
 /// CloseHandle: the handle no longer names anything, and no other gets its number, unless the dispatcher gives numbers again.
 #[unsafe(no_mangle)]
 pub extern "C" fn nt_close_handle(nt: &mut Nt, who: u32, handle: u32, out: &mut NtReply) -> u32
-    requires fit { IsFit nt.old }
-    ensures fit { IsFit nt.new }
     ensures answers { Acts nt.old who (Act.Close handle) result out.old out.new nt.new }
 {
     nt.act(who, Act::Close(Handle::new(handle)), out)
@@ -54,8 +48,6 @@ pub extern "C" fn nt_close_handle(nt: &mut Nt, who: u32, handle: u32, out: &mut 
 /// ExitThread: the calling thread ends.
 #[unsafe(no_mangle)]
 pub extern "C" fn nt_exit(nt: &mut Nt, who: u32, out: &mut NtReply) -> u32
-    requires fit { IsFit nt.old }
-    ensures fit { IsFit nt.new }
     ensures answers { AnswersCall nt.old who Call.Exit result out.old out.new nt.new }
 {
     tell(nt.ask(who, &Call::Exit), out)
@@ -64,8 +56,6 @@ pub extern "C" fn nt_exit(nt: &mut Nt, who: u32, out: &mut NtReply) -> u32
 /// CreateEvent, with the flags of CreateEventEx: 1 manual reset, 2 set at first. It answers the event's handle.
 #[unsafe(no_mangle)]
 pub extern "C" fn nt_create_event(nt: &mut Nt, who: u32, flags: u32, out: &mut NtReply) -> u32
-    requires fit { IsFit nt.old }
-    ensures fit { IsFit nt.new }
     ensures answers { Acts nt.old who (Act.CreateEvent flags) result out.old out.new nt.new }
 {
     nt.act(who, Act::CreateEvent(flags), out)
@@ -74,8 +64,6 @@ pub extern "C" fn nt_create_event(nt: &mut Nt, who: u32, flags: u32, out: &mut N
 /// SetEvent.
 #[unsafe(no_mangle)]
 pub extern "C" fn nt_set_event(nt: &mut Nt, who: u32, event: u32, out: &mut NtReply) -> u32
-    requires fit { IsFit nt.old }
-    ensures fit { IsFit nt.new }
     ensures answers { Acts nt.old who (Act.SetEvent event) result out.old out.new nt.new }
 {
     nt.act(who, Act::SetEvent(Handle::new(event)), out)
@@ -84,8 +72,6 @@ pub extern "C" fn nt_set_event(nt: &mut Nt, who: u32, event: u32, out: &mut NtRe
 /// ResetEvent.
 #[unsafe(no_mangle)]
 pub extern "C" fn nt_reset_event(nt: &mut Nt, who: u32, event: u32, out: &mut NtReply) -> u32
-    requires fit { IsFit nt.old }
-    ensures fit { IsFit nt.new }
     ensures answers { Acts nt.old who (Act.ResetEvent event) result out.old out.new nt.new }
 {
     nt.act(who, Act::ResetEvent(Handle::new(event)), out)
@@ -94,8 +80,6 @@ pub extern "C" fn nt_reset_event(nt: &mut Nt, who: u32, event: u32, out: &mut Nt
 /// PulseEvent.
 #[unsafe(no_mangle)]
 pub extern "C" fn nt_pulse_event(nt: &mut Nt, who: u32, event: u32, out: &mut NtReply) -> u32
-    requires fit { IsFit nt.old }
-    ensures fit { IsFit nt.new }
     ensures answers { Acts nt.old who (Act.PulseEvent event) result out.old out.new nt.new }
 {
     nt.act(who, Act::PulseEvent(Handle::new(event)), out)
@@ -104,8 +88,6 @@ pub extern "C" fn nt_pulse_event(nt: &mut Nt, who: u32, event: u32, out: &mut Nt
 /// CreateMutex, with the flag of CreateMutexEx: 1 owned by the caller. It answers the mutex's handle.
 #[unsafe(no_mangle)]
 pub extern "C" fn nt_create_mutex(nt: &mut Nt, who: u32, flags: u32, out: &mut NtReply) -> u32
-    requires fit { IsFit nt.old }
-    ensures fit { IsFit nt.new }
     ensures answers { Acts nt.old who (Act.CreateMutex flags) result out.old out.new nt.new }
 {
     nt.act(who, Act::CreateMutex(flags), out)
@@ -114,8 +96,6 @@ pub extern "C" fn nt_create_mutex(nt: &mut Nt, who: u32, flags: u32, out: &mut N
 /// ReleaseMutex.
 #[unsafe(no_mangle)]
 pub extern "C" fn nt_release_mutex(nt: &mut Nt, who: u32, mutex: u32, out: &mut NtReply) -> u32
-    requires fit { IsFit nt.old }
-    ensures fit { IsFit nt.new }
     ensures answers { Acts nt.old who (Act.ReleaseMutex mutex) result out.old out.new nt.new }
 {
     nt.act(who, Act::ReleaseMutex(Handle::new(mutex)), out)
@@ -130,8 +110,6 @@ pub extern "C" fn nt_create_semaphore(
     maximum: i32,
     out: &mut NtReply,
 ) -> u32
-    requires fit { IsFit nt.old }
-    ensures fit { IsFit nt.new }
     ensures answers { Acts nt.old who (Act.CreateSemaphore initial maximum) result out.old out.new nt.new }
 {
     nt.act(who, Act::CreateSemaphore { initial, maximum }, out)
@@ -146,8 +124,6 @@ pub extern "C" fn nt_release_semaphore(
     count: i32,
     out: &mut NtReply,
 ) -> u32
-    requires fit { IsFit nt.old }
-    ensures fit { IsFit nt.new }
     ensures answers { Acts nt.old who (Act.ReleaseSemaphore semaphore count) result out.old out.new nt.new }
 {
     let act = Act::ReleaseSemaphore {
@@ -160,8 +136,6 @@ pub extern "C" fn nt_release_semaphore(
 /// CreateWaitableTimer, with the flag of CreateWaitableTimerEx: 1 manual reset. It answers the timer's handle.
 #[unsafe(no_mangle)]
 pub extern "C" fn nt_create_timer(nt: &mut Nt, who: u32, flags: u32, out: &mut NtReply) -> u32
-    requires fit { IsFit nt.old }
-    ensures fit { IsFit nt.new }
     ensures answers { Acts nt.old who (Act.CreateTimer flags) result out.old out.new nt.new }
 {
     nt.act(who, Act::CreateTimer(flags), out)
@@ -178,8 +152,6 @@ pub extern "C" fn nt_set_timer(
     period: i32,
     out: &mut NtReply,
 ) -> u32
-    requires fit { IsFit nt.old }
-    ensures fit { IsFit nt.new }
     ensures answers { Acts nt.old who (Act.SetTimer timer due period None) result out.old out.new nt.new }
 {
     let act = Act::SetTimer {
@@ -203,8 +175,6 @@ pub extern "C" fn nt_set_timer_apc(
     arg: u64,
     out: &mut NtReply,
 ) -> u32
-    requires fit { IsFit nt.old }
-    ensures fit { IsFit nt.new }
     ensures answers { Acts nt.old who
         (Act.SetTimer timer due period (Some (routine, arg))) result out.old out.new nt.new }
 {
@@ -220,8 +190,6 @@ pub extern "C" fn nt_set_timer_apc(
 /// CancelWaitableTimer.
 #[unsafe(no_mangle)]
 pub extern "C" fn nt_cancel_timer(nt: &mut Nt, who: u32, timer: u32, out: &mut NtReply) -> u32
-    requires fit { IsFit nt.old }
-    ensures fit { IsFit nt.new }
     ensures answers { Acts nt.old who (Act.CancelTimer timer) result out.old out.new nt.new }
 {
     nt.act(who, Act::CancelTimer(Handle::new(timer)), out)
@@ -237,8 +205,6 @@ pub extern "C" fn nt_queue_apc(
     arg: u64,
     out: &mut NtReply,
 ) -> u32
-    requires fit { IsFit nt.old }
-    ensures fit { IsFit nt.new }
     ensures answers { Acts nt.old who (Act.QueueApc thread routine arg) result out.old out.new nt.new }
 {
     let act = Act::QueueApc {
@@ -252,8 +218,6 @@ pub extern "C" fn nt_queue_apc(
 /// Takes the caller's oldest APC, where its last ended wait ended for its APCs and it has not found none since.
 #[unsafe(no_mangle)]
 pub extern "C" fn nt_next_apc(nt: &mut Nt, who: u32, out: &mut NtReply) -> u32
-    requires fit { IsFit nt.old }
-    ensures fit { IsFit nt.new }
     ensures answers { Acts nt.old who Act.NextApc result out.old out.new nt.new }
 {
     nt.act(who, Act::NextApc, out)

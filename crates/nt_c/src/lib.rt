@@ -10,8 +10,9 @@
 //! ```
 //!
 //! A handle is a pointer to room for a dispatcher, of `nt_room` bytes, and whether there is one. The room is the caller's memory: that it is
-//! there, is nobody else's, and is used by one call at a time is what the header asks for, and what every contract here takes as
-//! given. Three functions of a line each touch it (`cell`, `held_mut`); all else is safe code.
+//! there, is nobody else's, and is used by one call at a time is what the header asks for. It asks, too, that C writes neither field, so that a
+//! handle says rightly whether there is one (`fit` of `Nt`). Every contract here takes that as given. Three functions of a line each touch the
+//! room (`cell`, `held_mut`); all else is safe code.
 #![tactic(auto)]
 
 mod begins;

@@ -4,7 +4,7 @@ ghost use Rattle.nt_life.specs.Lasting.{no_spares};
 ghost use Rattle.nt_status.specs.declared.limits.TheConstants.{MAX_MANY_THREADS, MAX_THREADS};
 ghost use Rattle.std.specs.Mem.{type_size};
 ghost use Rattle.nt_sleepers.specs.contracts.sleepers.Sleepers.{the_row as sleepers_row};
-ghost use Rattle.nt_c.specs.Asks.{IsFit, Keeps, OpensHandle, Copies, GivesAgainIn, done_error};
+ghost use Rattle.nt_c.specs.Asks.{Keeps, OpensHandle, Copies, GivesAgainIn, done_error};
 
 use crate::handle::Nt;
 use crate::numbers::{INVALID_HANDLE, INVALID_PARAMETER};
@@ -25,8 +25,6 @@ pub extern "C" fn nt_room() -> usize
 /// Refused with 87 where the handle has one, or the threads are not 1 to 256, and with 8 where memory is refused.
 #[unsafe(no_mangle)]
 pub extern "C" fn nt_open(alloc: Global, nt: &mut Nt, threads: u32) -> u32
-    requires fit { IsFit nt.old }
-    ensures fit { IsFit nt.new }
     ensures opens { OpensHandle MAX_THREADS None nt.old.cell.held threads result nt.new.cell.held }
 {
     if nt.live {
@@ -46,8 +44,6 @@ pub extern "C" fn nt_open(alloc: Global, nt: &mut Nt, threads: u32) -> u32
 /// has 1 to 4,096 threads.
 #[unsafe(no_mangle)]
 pub extern "C" fn nt_open_lasting(alloc: Global, nt: &mut Nt, threads: u32) -> u32
-    requires fit { IsFit nt.old }
-    ensures fit { IsFit nt.new }
     ensures opens { OpensHandle MAX_MANY_THREADS (Some no_spares) nt.old.cell.held threads result nt.new.cell.held }
 {
     if nt.live {
@@ -79,8 +75,6 @@ fn error_of(done: Result<(), Refusal>) -> u32
 /// Refused with 6 where the handle has no dispatcher, and with 8 where memory is refused, which changes nothing.
 #[unsafe(no_mangle)]
 pub extern "C" fn nt_give_again(alloc: Global, nt: &mut Nt) -> u32
-    requires fit { IsFit nt.old }
-    ensures fit { IsFit nt.new }
     ensures gives { GivesAgainIn nt.old.cell.held result nt.new.cell.held }
 {
     if !nt.live {
@@ -94,10 +88,6 @@ pub extern "C" fn nt_give_again(alloc: Global, nt: &mut Nt) -> u32
 /// Refused with 6 where there is none to copy, with 87 where the other handle has one, and with 8 where memory is refused.
 #[unsafe(no_mangle)]
 pub extern "C" fn nt_copy(nt: &mut Nt, to: &mut Nt) -> u32
-    requires fit { IsFit nt.old }
-    requires to_fit { IsFit to.old }
-    ensures fit { IsFit nt.new }
-    ensures to_fit { IsFit to.new }
     ensures same { Keeps nt.old nt.new }
     ensures copies { Copies nt.old.cell.held to.old.cell.held result to.new.cell.held }
 {
@@ -120,8 +110,6 @@ pub extern "C" fn nt_copy(nt: &mut Nt, to: &mut Nt) -> u32
 /// Frees what the handle has. Where it has nothing, nothing is done.
 #[unsafe(no_mangle)]
 pub extern "C" fn nt_close(nt: &mut Nt)
-    requires fit { IsFit nt.old }
-    ensures fit { IsFit nt.new }
     ensures closed { nt.new.cell.held ≡ None }
 {
     if nt.live {

@@ -3,7 +3,7 @@ ghost use Rattle.std.specs.Prelude.{◌≡◌, ◌↔◌, true, length, MatchBoo
 ghost use Rattle.nt_calls.specs.Steps.{IsNextMoment, NothingDue};
 ghost use Rattle.nt_machine.specs.Dispatcher.{state};
 ghost use Rattle.nt_look.specs.Hangs.{unmarked, IsStuck};
-ghost use Rattle.nt_c.specs.Asks.{IsFit, Keeps};
+ghost use Rattle.nt_c.specs.Asks.{Keeps};
 ghost use Rattle.nt_c.specs.Looks.{plain_object, owned_in, armed_in, object_for_c, IsWhy, ReadsNumbered, ReadsOpened, ReadsWhy};
 
 use crate::handle::Nt;
@@ -156,8 +156,6 @@ fn in_numbers(object: &Object) -> NtObject
 /// Refused with 6 where the handle has no dispatcher, and with 259 where no object has this number.
 #[unsafe(no_mangle)]
 pub extern "C" fn nt_object(nt: &mut Nt, object: u32, out: &mut NtObject) -> u32
-    requires fit { IsFit nt.old }
-    ensures fit { IsFit nt.new }
     ensures same { Keeps nt.old nt.new }
     ensures reads { ReadsNumbered object nt.old result out.old out.new }
 {
@@ -175,8 +173,6 @@ pub extern "C" fn nt_object(nt: &mut Nt, object: u32, out: &mut NtObject) -> u32
 /// The object that the handle names, and with which rights. Refused with 6 where the handle names nothing, or there is no dispatcher.
 #[unsafe(no_mangle)]
 pub extern "C" fn nt_opened(nt: &mut Nt, handle: u32, out: &mut NtOpened) -> u32
-    requires fit { IsFit nt.old }
-    ensures fit { IsFit nt.new }
     ensures same { Keeps nt.old nt.new }
     ensures reads { ReadsOpened handle nt.old result out.old out.new }
 {
@@ -247,8 +243,6 @@ pub extern "C" fn nt_why(
     out: &mut NtWhy,
     knot: &mut [bool],
 ) -> u32
-    requires fit { IsFit nt.old }
-    ensures fit { IsFit nt.new }
     ensures same { Keeps nt.old nt.new }
     ensures reads { ReadsWhy over.now up_to nt.old result out.old out.new knot.old knot.new }
 {

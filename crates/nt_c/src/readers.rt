@@ -1,7 +1,7 @@
 //! What C reads of a dispatcher, and the time that passes for it.
 ghost use Rattle.std.specs.FinMap as map;
 ghost use Rattle.nt_machine.specs.Dispatcher.{state};
-ghost use Rattle.nt_c.specs.Asks.{IsFit, Keeps, Reads, ReadsDue, ReadsWaiting, Ticks};
+ghost use Rattle.nt_c.specs.Asks.{Keeps, Reads, ReadsDue, ReadsWaiting, Ticks};
 
 use crate::handle::Nt;
 use crate::numbers::{INVALID_HANDLE, INVALID_PARAMETER, NO_MORE, UNKNOWN_THREAD};
@@ -12,8 +12,6 @@ use nt_status::Moment;
 /// Refused with 87 where `m` is above 2^62, with 6 where the handle has no dispatcher, and with 536870917 where `m` is past.
 #[unsafe(no_mangle)]
 pub extern "C" fn nt_tick(nt: &mut Nt, m: u64) -> u32
-    requires fit { IsFit nt.old }
-    ensures fit { IsFit nt.new }
     ensures ticks { Ticks nt.old m result nt.new }
 {
     let Some(moment) = Moment::new(m) else {
@@ -28,8 +26,6 @@ pub extern "C" fn nt_tick(nt: &mut Nt, m: u64) -> u32
 /// The present moment, in units of 100 ns: that of the last tick. Refused with 6 where the handle has no dispatcher.
 #[unsafe(no_mangle)]
 pub extern "C" fn nt_now(nt: &mut Nt, out: &mut u64) -> u32
-    requires fit { IsFit nt.old }
-    ensures fit { IsFit nt.new }
     ensures same { Keeps nt.old nt.new }
     ensures reads { Reads (λ core. (state core).now) nt.old result out.old out.new }
 {
@@ -45,8 +41,6 @@ pub extern "C" fn nt_now(nt: &mut Nt, out: &mut u64) -> u32
 /// Refused with 87 where `m` is above 2^62, with 6 where the handle has no dispatcher, and with 259 where nothing is due by then.
 #[unsafe(no_mangle)]
 pub extern "C" fn nt_due(nt: &mut Nt, m: u64, out: &mut u64) -> u32
-    requires fit { IsFit nt.old }
-    ensures fit { IsFit nt.new }
     ensures same { Keeps nt.old nt.new }
     ensures reads { ReadsDue m nt.old result out.old out.new }
 {
@@ -66,8 +60,6 @@ pub extern "C" fn nt_due(nt: &mut Nt, m: u64, out: &mut u64) -> u32
 /// How many threads there are, those that have ended among them. Refused with 6 where the handle has no dispatcher.
 #[unsafe(no_mangle)]
 pub extern "C" fn nt_threads(nt: &mut Nt, out: &mut u32) -> u32
-    requires fit { IsFit nt.old }
-    ensures fit { IsFit nt.new }
     ensures same { Keeps nt.old nt.new }
     ensures reads { Reads (λ core. (state core).threads) nt.old result out.old out.new }
 {
@@ -81,8 +73,6 @@ pub extern "C" fn nt_threads(nt: &mut Nt, out: &mut u32) -> u32
 /// How many waits pend. Refused with 6 where the handle has no dispatcher.
 #[unsafe(no_mangle)]
 pub extern "C" fn nt_pending(nt: &mut Nt, out: &mut usize) -> u32
-    requires fit { IsFit nt.old }
-    ensures fit { IsFit nt.new }
     ensures same { Keeps nt.old nt.new }
     ensures reads { Reads (λ core. map.len (state core).waits) nt.old result out.old out.new }
 {
@@ -96,8 +86,6 @@ pub extern "C" fn nt_pending(nt: &mut Nt, out: &mut usize) -> u32
 /// How many pending waits the last call or tick looked at. Refused with 6 where the handle has no dispatcher.
 #[unsafe(no_mangle)]
 pub extern "C" fn nt_tested(nt: &mut Nt, out: &mut u64) -> u32
-    requires fit { IsFit nt.old }
-    ensures fit { IsFit nt.new }
     ensures same { Keeps nt.old nt.new }
     ensures reads { Reads (λ core. core.table.looked) nt.old result out.old out.new }
 {
@@ -113,8 +101,6 @@ pub extern "C" fn nt_tested(nt: &mut Nt, out: &mut u64) -> u32
 /// Refused with 6 where the handle has no dispatcher, and with 536870915 where no thread has this number.
 #[unsafe(no_mangle)]
 pub extern "C" fn nt_is_waiting(nt: &mut Nt, thread: u32, out: &mut bool) -> u32
-    requires fit { IsFit nt.old }
-    ensures fit { IsFit nt.new }
     ensures same { Keeps nt.old nt.new }
     ensures reads { ReadsWaiting thread nt.old result out.old out.new }
 {

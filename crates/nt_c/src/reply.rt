@@ -1,6 +1,6 @@
 //! What a call tells C: its reply, and the waits that it ended.
 ghost use Rattle.std.specs.Prelude.{◌≡◌, pos, false};
-ghost use Rattle.nt_c.specs.Asks.{IsFit, Keeps, ReadsGrant, error_of, reply_after, reply_in};
+ghost use Rattle.nt_c.specs.Asks.{Keeps, ReadsGrant, error_of, reply_after, reply_in};
 
 use crate::handle::Nt;
 use crate::numbers::{INVALID_HANDLE, NO_MORE};
@@ -96,8 +96,6 @@ pub struct NtGrant {
 /// Refused with 6 where the handle has no dispatcher, and with 259 past the last.
 #[unsafe(no_mangle)]
 pub extern "C" fn nt_grant(nt: &mut Nt, index: usize, out: &mut NtGrant) -> u32
-    requires fit { IsFit nt.old }
-    ensures fit { IsFit nt.new }
     ensures same { Keeps nt.old nt.new }
     ensures reads { ReadsGrant index nt.old result out.old out.new }
 {

@@ -1,6 +1,6 @@
 //! Those who wait and sleep, as C sees them.
 ghost use Rattle.std.specs.Prelude.{◌≡◌};
-ghost use Rattle.nt_c.specs.Asks.{IsFit, Keeps, ReadsWait, ReadsObject, wait_in};
+ghost use Rattle.nt_c.specs.Asks.{Keeps, ReadsWait, ReadsObject, wait_in};
 ghost use Rattle.nt_c.specs.Sleeps.{FallsAsleep, ReadsTold, Sleeps, WakesThread, told_in_numbers};
 
 use crate::handle::Nt;
@@ -53,8 +53,6 @@ fn sleep(sleepers: &mut Sleepers, who: u32, watches: bool) -> Option<u64>
 /// sleeps until its wait ends or it is called.
 #[unsafe(no_mangle)]
 pub extern "C" fn nt_pend(nt: &mut Nt, who: u32, watches: bool, out: &mut u64) -> u32
-    requires fit { IsFit nt.old }
-    ensures fit { IsFit nt.new }
     ensures falls_asleep { FallsAsleep watches who nt.old result out.old out.new nt.new }
 {
     if !nt.live {
@@ -76,8 +74,6 @@ pub extern "C" fn nt_pend(nt: &mut Nt, who: u32, watches: bool, out: &mut u64) -
 /// Refused as `nt_pend` is.
 #[unsafe(no_mangle)]
 pub extern "C" fn nt_woke(nt: &mut Nt, who: u32) -> u32
-    requires fit { IsFit nt.old }
-    ensures fit { IsFit nt.new }
     ensures wakes { WakesThread who nt.old result nt.new }
 {
     if !nt.live {
@@ -96,8 +92,6 @@ pub extern "C" fn nt_woke(nt: &mut Nt, who: u32) -> u32
 /// Refused with 6 where the handle has no dispatcher, and with 259 past the last.
 #[unsafe(no_mangle)]
 pub extern "C" fn nt_told(nt: &mut Nt, index: usize, out: &mut NtTold) -> u32
-    requires fit { IsFit nt.old }
-    ensures fit { IsFit nt.new }
     ensures same { Keeps nt.old nt.new }
     ensures reads { ReadsTold index nt.old result out.old out.new }
 {
@@ -147,8 +141,6 @@ fn wait_in_numbers(wait: &Wait) -> NtPendingWait
 /// not pend.
 #[unsafe(no_mangle)]
 pub extern "C" fn nt_waits_for(nt: &mut Nt, thread: u32, out: &mut NtPendingWait) -> u32
-    requires fit { IsFit nt.old }
-    ensures fit { IsFit nt.new }
     ensures same { Keeps nt.old nt.new }
     ensures reads { ReadsWait thread nt.old result out.old out.new }
 {
@@ -171,8 +163,6 @@ pub extern "C" fn nt_waits_for(nt: &mut Nt, thread: u32, out: &mut NtPendingWait
 /// Refused as `nt_waits_for` is, and with 259 past the last.
 #[unsafe(no_mangle)]
 pub extern "C" fn nt_waited_object(nt: &mut Nt, thread: u32, index: usize, out: &mut u32) -> u32
-    requires fit { IsFit nt.old }
-    ensures fit { IsFit nt.new }
     ensures same { Keeps nt.old nt.new }
     ensures reads { ReadsObject thread index nt.old result out.old out.new }
 {

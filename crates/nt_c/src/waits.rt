@@ -2,7 +2,7 @@
 ghost use Rattle.std.specs.Prelude.{◌≡◌, ◌<◌, ◌≤◌, ◌∷◌, [], length, false};
 ghost use Rattle.nt_calls.specs.declared.call.WaitCall.{WaitCall};
 ghost use Rattle.nt_calls.specs.declared.call.Call.{Call};
-ghost use Rattle.nt_c.specs.Asks.{IsFit, Asked, WaitsWith};
+ghost use Rattle.nt_c.specs.Asks.{Asked, WaitsWith};
 
 use crate::handle::Nt;
 use crate::reply::{NtReply, tell};
@@ -52,8 +52,6 @@ fn wait_for_many(
     all: bool,
     mode: WaitMode,
 ) -> Result<Reply, Refusal>
-    requires fit { IsFit nt.old }
-    ensures fit { IsFit nt.new }
     ensures asked { Asked nt.old.cell.held who (Call.Wait (WaitCall.Objects all mode numbers.now))
         result nt.new.cell.held }
 {
@@ -72,8 +70,6 @@ pub extern "C" fn nt_wait_objects(
     alertable: bool,
     out: &mut NtReply,
 ) -> u32
-    requires fit { IsFit nt.old }
-    ensures fit { IsFit nt.new }
     ensures answers { WaitsWith nt.old who
         (WaitCall.Objects all (record { ms = ms; alertable = alertable }) handles.now)
         result out.old out.new nt.new }
@@ -98,8 +94,6 @@ pub extern "C" fn nt_wait_object(
     alertable: bool,
     out: &mut NtReply,
 ) -> u32
-    requires fit { IsFit nt.old }
-    ensures fit { IsFit nt.new }
     ensures answers { WaitsWith nt.old who
         (WaitCall.Objects false (record { ms = ms; alertable = alertable }) (handle ∷ []))
         result out.old out.new nt.new }
@@ -121,8 +115,6 @@ pub extern "C" fn nt_sleep(
     alertable: bool,
     out: &mut NtReply,
 ) -> u32
-    requires fit { IsFit nt.old }
-    ensures fit { IsFit nt.new }
     ensures answers { WaitsWith nt.old who
         (WaitCall.Sleep (record { ms = ms; alertable = alertable })) result out.old out.new nt.new }
 {
@@ -141,8 +133,6 @@ pub extern "C" fn nt_swap(
     alertable: bool,
     out: &mut NtReply,
 ) -> u32
-    requires fit { IsFit nt.old }
-    ensures fit { IsFit nt.new }
     ensures answers { WaitsWith nt.old who
         (WaitCall.Swap signal object (record { ms = ms; alertable = alertable })) result out.old out.new nt.new }
 {
