@@ -1,5 +1,4 @@
 pub mod Faults
-pub mod Answers
 pub mod Rows
 pub mod Plans
 pub mod Reading

@@ -8,7 +8,6 @@
 //! [`explore_file`] for a file's. How far the search is goes to a sink of its own meanwhile ([`Progress`]).
 #![tactic(auto)]
 
-mod answers;
 mod explore;
 mod fault;
 mod hang;

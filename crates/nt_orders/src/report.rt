@@ -7,7 +7,7 @@ ghost use Rattle.nt_orders.specs.Ending.{verdict_code, order_of, IsCutOff, IsSea
 ghost use Rattle.nt_orders.specs.Reading.{lanes_of};
 
 use crate::fault::OrdersFault;
-use crate::hang::{held_at, put_hang};
+use crate::hang::put_hang;
 use crate::lanes::Script;
 use crate::progress::Progress;
 use crate::reading::read_script;
@@ -15,8 +15,7 @@ use crate::rows::put_rows;
 use nt_core::Core;
 use nt_devices::Sink;
 use nt_explore::{Explored, Loss, OrderVerdict, explore};
-use nt_hangs::{Report, before_zero};
-use nt_look::is_stuck;
+use nt_hangs::{Report, before_zero, verdict_of};
 use nt_wording::{put_number, put_thread_title, put_waiters};
 use std::alloc::{AllocError, Global};
 
@@ -90,9 +89,9 @@ fn put_hang_line(
     told: &[u8],
     over: &[bool],
 ) -> Result<(), AllocError> {
-    let held = held_at(alloc, core, over)?;
+    let verdict = verdict_of(alloc, core, over)?;
     out.extend_from_slice(b"  ")?;
-    put_hang(out, core, told, is_stuck(core, over), &held)?;
+    put_hang(out, core, told, verdict.stuck, &verdict.knot)?;
     out.extend_from_slice(b"\n")
 }
 

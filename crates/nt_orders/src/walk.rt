@@ -1,10 +1,10 @@
 //! An order is gone, from the start.
-use crate::answers::answer_of;
 use crate::lanes::{Line, Script};
 use crate::rows::Row;
 use nt_core::{Core, Reply};
 use nt_explore::Ask;
 use nt_status::Refusal;
+use nt_wording::answer_of;
 use std::alloc::{AllocError, Global};
 
 /// Makes what the lane is asked for.

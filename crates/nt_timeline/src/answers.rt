@@ -4,6 +4,7 @@ use crate::steps::Kind;
 use memchr::memchr;
 use nt_lines::{MAX_DIGITS, number_of};
 use nt_status::{Refusal, Status};
+use nt_wording::put_status;
 use std::alloc::{AllocError, Global};
 
 /// Every refusal.
@@ -70,9 +71,9 @@ pub(crate) fn answer_in(said: &[u8]) -> &[u8] {
 
 /// How a wait ended, by name. That of the first object has no number after it.
 pub fn name_of(alloc: Global, status: Status) -> Result<Vec<u8>, AllocError> {
-    let name = format!(in alloc; "{status}")?;
-    let name = name.as_bytes();
-    Vec::from_slice(alloc, name.strip_suffix(b"+0").unwrap_or(name))
+    let mut name = Vec::new(alloc);
+    put_status(&mut name, status)?;
+    Ok(name)
 }
 
 /// What kind of call it is that answered this, and the answer by name.

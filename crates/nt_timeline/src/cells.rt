@@ -1,9 +1,8 @@
 //! What stands in a thread's column beside a step.
 
-use crate::answers::name_of;
 use crate::steps::{EndOfWait, Kind, Step};
-use nt_wording::put_number;
-use std::alloc::{AllocError, Global};
+use nt_wording::{put_number, put_status};
+use std::alloc::AllocError;
 
 /// Puts a call, and what it answered.
 fn put_call(out: &mut Vec<u8>, step: &Step) -> Result<(), AllocError> {
@@ -18,16 +17,14 @@ fn put_call(out: &mut Vec<u8>, step: &Step) -> Result<(), AllocError> {
 }
 
 /// Puts how a wait ended, and since which line it pended.
-fn put_end(alloc: Global, out: &mut Vec<u8>, end: &EndOfWait) -> Result<(), AllocError> {
-    let name = name_of(alloc, end.status)?;
-    out.extend_from_slice(&name)?;
+fn put_end(out: &mut Vec<u8>, end: &EndOfWait) -> Result<(), AllocError> {
+    put_status(out, end.status)?;
     out.extend_from_slice(b" since ")?;
     put_number(out, end.since)
 }
 
 /// Puts the call of this thread, the end of its wait, or `|` while it waits; nothing where it does none of that.
 pub(crate) fn put_cell(
-    alloc: Global,
     out: &mut Vec<u8>,
     step: &Step,
     ended: &[EndOfWait],
@@ -38,7 +35,7 @@ pub(crate) fn put_cell(
         return put_call(out, step);
     }
     match ended.iter().find(|end| end.thread == thread) {
-        Some(end) => put_end(alloc, out, end),
+        Some(end) => put_end(out, end),
         None if waits => out.extend_from_slice(b"|"),
         None => Ok(()),
     }

@@ -35,14 +35,13 @@ impl Columns {
     /// Makes a step's cells fit.
     fn fit(
         &mut self,
-        alloc: Global,
         cell: &mut Vec<u8>,
         step: &Step,
         ended: &[EndOfWait],
     ) -> Result<(), AllocError> {
         for thread in 0..MOST_THREADS as u32 {
             cell.clear();
-            put_cell(alloc, cell, step, ended, thread, false)?;
+            put_cell(cell, step, ended, thread, false)?;
             self.widen(thread, cell.len());
         }
         Ok(())
@@ -74,7 +73,7 @@ impl Columns {
         for step in &kept.steps {
             let ended = step.ended(&kept.ended);
             if part.shows(step, ended) {
-                columns.fit(alloc, &mut cell, step, ended)?;
+                columns.fit(&mut cell, step, ended)?;
             }
         }
         columns.fit_titles(&mut cell, told)?;
@@ -138,7 +137,6 @@ fn put_titles(
 
 /// Puts the cells of a step, with this byte between them.
 fn put_cells(
-    alloc: Global,
     out: &mut Vec<u8>,
     columns: &Columns,
     step: &Step,
@@ -152,7 +150,7 @@ fn put_cells(
             let start = out.len();
             pad(out, start, 2, fill)?;
             let waits = waiting.since(thread).is_some();
-            put_cell(alloc, out, step, ended, thread, waits)?;
+            put_cell(out, step, ended, thread, waits)?;
             pad(out, start, width.saturating_add(2), fill)?;
         }
     }
@@ -170,10 +168,10 @@ fn put_row(
 ) -> Result<(), AllocError> {
     put_line(alloc, out, step.line)?;
     if step.who.is_some() {
-        put_cells(alloc, out, columns, step, ended, waiting, b' ')?;
+        put_cells(out, columns, step, ended, waiting, b' ')?;
         return end_row(out);
     }
-    put_cells(alloc, out, columns, step, ended, waiting, b'-')?;
+    put_cells(out, columns, step, ended, waiting, b'-')?;
     out.extend_from_slice(b"--  tick ")?;
     out.extend_from_slice(&step.call)?;
     if !step.answer.is_empty() {

@@ -1,3 +1,4 @@
+pub mod Answers
 pub mod Names
 pub mod Waits
 pub mod Verdicts

@@ -2,13 +2,13 @@
 ghost use Rattle.std.specs.Prelude.{◌≡◌, ◌++◌, IfOk, OnOk, codes, decimal};
 ghost use Rattle.std.specs.List.{flat_map};
 ghost use Rattle.nt_status.specs.Status.{status_text};
-ghost use Rattle.nt_orders.specs.Answers.{order_answer_text, apc_text, ending_text, wait_end_text, how_text, reply_text, result_text, whose_text};
+ghost use Rattle.nt_wording.specs.Answers.{order_answer_text, apc_text, ending_text, wait_end_text, how_text, reply_text, result_text, whose_text};
 ghost use Rattle.nt_script.specs.Transcript.{moment_text};
 
+use crate::text::{put_number, put_signed};
 use nt_apc::Apc;
 use nt_core::{Grant, Reply};
 use nt_status::{OptionalMoment, Refusal, Status, ThreadId};
-use nt_wording::{put_number, put_signed};
 use std::alloc::{AllocError, Global};
 
 /// Puts the name of a status, with the index of its object.
@@ -21,7 +21,7 @@ fn put_indexed(out: &mut Vec<u8>, status: Status) -> Result<(), AllocError>
 }
 
 /// Puts the name of a status. That of the first object has no number after it.
-fn put_status(out: &mut Vec<u8>, status: Status) -> Result<(), AllocError>
+pub fn put_status(out: &mut Vec<u8>, status: Status) -> Result<(), AllocError>
     ensures { OnOk result (out.new.items ≡ out.old.items ++ ending_text status) }
 {
     let code = status.code();
@@ -128,7 +128,7 @@ fn put_grants(out: &mut Vec<u8>, grants: &[Grant]) -> Result<(), AllocError>
 }
 
 /// What a call answered, and the waits that it ended.
-pub(crate) fn answer_of(
+pub fn answer_of(
     alloc: Global,
     answer: &Result<Reply, Refusal>,
     grants: &[Grant],
