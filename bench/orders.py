@@ -4,6 +4,7 @@ import re
 from machine import BACK, DEEP, DENIED, ENDED, GONE, NO_HANDLE, NOT_OWNER, PARAMETER, TOO_MANY, UNKNOWN, WAITING, Event, Gone, Machine, Mutex, Semaphore, Thread, Timer
 
 CREATES = ("event", "semaphore", "mutex", "timer", "dup")
+NAMES_ONE = ("set", "reset", "pulse", "release", "unlock", "arm", "cancel", "apc", "close")
 REFUSALS = {
     DENIED: "ERROR_ACCESS_DENIED",
     NO_HANDLE: "ERROR_INVALID_HANDLE",
@@ -145,6 +146,34 @@ def hangs(machine, callers):
     return bool(machine.waits) and is_stuck(machine, callers) or bool(knot_of(machine, callers))
 
 
+# ---- who stands alike
+
+def handles_in(keyword, *words):
+    """The handles that a call names."""
+    return words[0] if keyword == "wait" else words[:2] if keyword == "swap" else words[:1] if keyword in NAMES_ONE else ()
+
+
+def twins_of(script):
+    """For each thread the lower ones that have the same calls to make, where no call names the handle of one of the two."""
+    calls = [[script.names.call(*line.split()[1:2], line.split()[2:]) for _, line in lane] for lane in script.lanes[:-1]]
+    named = {it for lane in calls for call in lane for it in handles_in(*call)}
+    return [[low for low in range(who) if calls[low] == calls[who] and not {low, who} & named] for who in range(script.threads)]
+
+
+def is_bare(machine, who):
+    """Whether the thread runs, waits for nothing and owns nothing, nothing but its own handle names it, and nobody has an APC."""
+    named = {number for number, opened in enumerate(machine.handles) if opened and opened[0] == who}
+    owns = any(it.owner == who if isinstance(it, Mutex) else isinstance(it, Timer) and bool(it.armed and it.armed.routine and it.armed.routine[2] == who) for it in machine.objects)
+    awaited = any(who in wait.objects for wait in machine.waits.values())
+    return machine.objects[who] == Thread(False) and who not in machine.waits and not awaited and named <= {who} and not owns and not any(machine.apcs)
+
+
+def are_alike(machine, low, who):
+    """Whether two bare threads have handles of the same rights, and may take APCs alike."""
+    rights = [opened and (opened[0] == it, opened[1]) for it, opened in ((low, machine.handles[low]), (who, machine.handles[who]))]
+    return rights[0] == rights[1] and (rights[0] is None or rights[0][0]) and machine.handing[low] == machine.handing[who]
+
+
 # ---- every order
 
 class Point:
@@ -161,10 +190,12 @@ class Point:
 
 
 class Found:
-    """All points of a script, level by level; which hang, and where a wait is lost."""
+    """The points of a script, level by level; which hang, and where a wait is lost. Of threads that stand alike only the lowest goes, or each
+    in a plain search."""
 
-    def __init__(self, script):
+    def __init__(self, script, plain=False):
         self.script, self.steps, self.points, met = script, 0, [], {}
+        self.twins = [[] for _ in script.lanes] if plain else [*twins_of(script), []]
         start = Point(script.start, (0,) * len(script.lanes), None, None)
         self.points.append(start)
         met[start.at, start.machine.key()] = start
@@ -179,7 +210,7 @@ class Found:
         return more | set(point.machine.waits)
 
     def go(self, here, lane, met):
-        if here.at[lane] == len(self.script.lanes[lane]) or lane in here.machine.waits:
+        if here.at[lane] == len(self.script.lanes[lane]) or lane in here.machine.waits or self.has_lower(here, lane):
             return
         machine = here.machine.copy()
         self.script.names.carry_out(machine, self.script.lanes[lane][here.at[lane]][1])
@@ -189,6 +220,12 @@ class Found:
             self.points.append(found)
         here.after.append(found)
         self.steps += 1
+
+    def has_lower(self, here, who):
+        """Whether a lower thread stands alike."""
+        machine, at = here.machine, here.at
+        lower = [low for low in self.twins[who] if at[low] == at[who] and is_bare(machine, low) and are_alike(machine, low, who)]
+        return bool(lower) and is_bare(machine, who)
 
     def find_losses(self):
         """A wait is lost where it pends, and is lost wherever one lane leads."""

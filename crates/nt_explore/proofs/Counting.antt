@@ -4,7 +4,9 @@ use Rattle.std.specs.Prelude.{nat_lt, reverse, ◌↔◌, Result, Ok, Err, OnErr
 use Rattle.std.proofs.lemmas.Bool.{false≢true}
 use Rattle.std.proofs.lemmas.Bool.Decides.{nat_tests}
 use Rattle.nt_calls.specs.State.{State}
-use Rattle.nt_look.specs.Orders.{Plan, Point, Goes, Hangs, place}
+use Rattle.nt_look.specs.Orders.{Plan, Point, Hangs, place}
+use Rattle.nt_apart.specs.Fewer.{IsLowestChosen}
+use Rattle.nt_explore.specs.Lanes.{AreKinds, TriedGoes, is_tried}
 use Rattle.nt_look.proofs.Searching.{lane_there}
 use Rattle.nt_explore.specs.declared.met.Visit.{Visit}
 use Rattle.nt_explore.specs.declared.loss.Edge.{Edge}
@@ -53,13 +55,14 @@ then_new met looked states i past = go (nat_lt looked i) refl
     go true e = refl
     go false e = let more : i ≤ looked = grind (arith, nat_tests, e) in absurd (omega (arith, more, past))
 
-pub met_begins : (plan : Plan) (s : State) → AreMet plan (beginning plan s) 0 1 0 0 (λ i. beginning plan s) (λ i. 1)
-met_begins plan s = record {
+pub met_begins : (plan : Plan) (kinds : List ℕ) (s : State) → AreMet plan kinds (beginning plan s) 0 1 0 0 (λ i. beginning plan s) (λ i. 1)
+met_begins plan kinds s = record {
   turns = record {
     first = refl;
     one = refl;
     more = λ i below. absurd (omega (arith, below));
     leads = λ i lane q below. absurd (omega (arith, below));
+    lowest = λ i below. absurd (omega (arith, below));
     came = λ i j below. absurd (omega (arith, below));
     once = λ i j first below. absurd (omega (arith, first, below));
   };
@@ -67,17 +70,19 @@ met_begins plan s = record {
   low = λ i below. omega arith;
 }
 
-pub met_more : (plan : Plan) (start : Point) (old new : List Visit) (pairs pairs' : List Edge) (looked hangs hangs' : ℕ) (hung : Bool) (point : ℕ → Point) (met : ℕ → ℕ) → looked < length old
+pub met_more : (plan : Plan) (kinds : List ℕ) (start : Point) (old new : List Visit) (pairs pairs' : List Edge) (looked hangs hangs' : ℕ) (hung : Bool) (point : ℕ → Point) (met : ℕ → ℕ) → looked < length old
     → (hung ≡ true ↔ Hangs plan (point looked)) → hangs' ≡ one_more_if hung hangs
-    → (tries : Tries plan start old new pairs pairs' (point looked) looked (length plan) point)
-    → AreMet plan start looked (length old) (length pairs) hangs point met
-    → AreMet plan start (looked + 1) (length new) (length pairs') hangs' tries.points (then_met met looked (length new))
-met_more plan start old new pairs pairs' looked hangs hangs' hung point met within told becomes tries so = record {
+    → IsLowestChosen plan (point looked) (is_tried kinds (point looked))
+    → (tries : Tries plan kinds start old new pairs pairs' (point looked) looked (length plan) point)
+    → AreMet plan kinds start looked (length old) (length pairs) hangs point met
+    → AreMet plan kinds start (looked + 1) (length new) (length pairs') hangs' tries.points (then_met met looked (length new))
+met_more plan kinds start old new pairs pairs' looked hangs hangs' hung point met within told becomes least tries so = record {
   turns = record {
     first = same 0 (omega (arith, within)) ∙ so.turns.first;
     one = before 0 (omega arith) ∙ so.turns.one;
     more = λ i below. more i (below_or i looked below);
     leads = λ i lane q below goes. leads i lane q goes (below_or i looked below);
+    lowest = λ i below. lowest i (below_or i looked below);
     came = λ i j below past under. came i j past under (below_or i looked below);
     once = subst (AreDistinct tries.points) (sym (after (looked + 1) (omega arith))) tries.grows.walk.differ;
   };
@@ -115,21 +120,25 @@ met_more plan start old new pairs pairs' looked hangs hangs' hung point met with
         let a = before i (omega (arith, is)) in let b = after (i + 1) (omega (arith, is)) in
         let here = ap met is in omega (arith, a, b, here, all, longer)
 
-    leads : (i lane : ℕ) (q : Point) → Goes plan (tries.points i) lane q → (i < looked) ⊎ (i ≡ looked) → (j : ℕ) × (j < then_met met looked (length new) (i + 1)) × (tries.points j ≡ q)
+    lowest : (i : ℕ) → (i < looked) ⊎ (i ≡ looked) → IsLowestChosen plan (tries.points i) (is_tried kinds (tries.points i))
+    lowest i (inl less) = subst (λ (p : Point). IsLowestChosen plan p (is_tried kinds p)) (sym (same i (omega (arith, less, within)))) (so.turns.lowest i less)
+    lowest i (inr is) = subst (λ (p : Point). IsLowestChosen plan p (is_tried kinds p)) (sym (ap tries.points is ∙ same looked within)) least
+
+    leads : (i lane : ℕ) (q : Point) → TriedGoes plan kinds (tries.points i) lane q → (i < looked) ⊎ (i ≡ looked) → (j : ℕ) × (j < then_met met looked (length new) (i + 1)) × (tries.points j ≡ q)
     leads i lane q goes (inl less) =
-        let it = so.turns.leads i lane q less (subst (λ (p : Point). Goes plan p lane q) (same i (omega (arith, less, within))) goes) in
+        let it = so.turns.leads i lane q less (subst (λ (p : Point). TriedGoes plan kinds p lane q) (same i (omega (arith, less, within))) goes) in
         let under = it.1 in
         let b = before (i + 1) (omega (arith, less)) in
         let top = so.low (i + 1) (omega (arith, less)) in
         (it.0, omega (arith, under, b), same it.0 (omega (arith, under, top)) ∙ it.2)
     leads i lane q goes (inr is) =
-        let here : Goes plan (point looked) lane q = subst (λ (p : Point). Goes plan p lane q) (ap tries.points is ∙ same looked within) goes in
-        let it = tries.tried lane q (lane_there plan lane (place (point looked) lane) here.ask here.next) here in
+        let here : TriedGoes plan kinds (point looked) lane q = subst (λ (p : Point). TriedGoes plan kinds p lane q) (ap tries.points is ∙ same looked within) goes in
+        let it = tries.tried lane q (lane_there plan lane (place (point looked) lane) here.1.ask here.1.next) here in
         let under = it.1 in
         let b = after (i + 1) (omega (arith, is)) in
         (it.0, omega (arith, under, b), it.2)
 
-    came : (i j : ℕ) → then_met met looked (length new) i ≤ j → j < then_met met looked (length new) (i + 1) → (i < looked) ⊎ (i ≡ looked) → (lane : ℕ) × Goes plan (tries.points i) lane (tries.points j)
+    came : (i j : ℕ) → then_met met looked (length new) i ≤ j → j < then_met met looked (length new) (i + 1) → (i < looked) ⊎ (i ≡ looked) → (lane : ℕ) × TriedGoes plan kinds (tries.points i) lane (tries.points j)
     came i j past under (inl less) =
         let a = before i (omega (arith, less)) in
         let b = before (i + 1) (omega (arith, less)) in
@@ -137,22 +146,22 @@ met_more plan start old new pairs pairs' looked hangs hangs' hung point met with
         let it = so.turns.came i j less (omega (arith, a, past)) (omega (arith, b, under)) in
         let from = sym (same i (omega (arith, less, within))) in
         let to = sym (same j (omega (arith, b, under, top))) in
-        (it.0, subst (λ (p : Point). Goes plan p it.0 (tries.points j)) from (subst (λ (q : Point). Goes plan (point i) it.0 q) to it.1))
+        (it.0, subst (λ (p : Point). TriedGoes plan kinds p it.0 (tries.points j)) from (subst (λ (q : Point). TriedGoes plan kinds (point i) it.0 q) to it.1))
     came i j past under (inr is) =
         let a = before i (omega (arith, is)) in
         let b = after (i + 1) (omega (arith, is)) in
         let here = ap met is in
         let it = tries.came j (omega (arith, a, past, here, all)) (omega (arith, b, under)) in
         let from = sym (ap tries.points is ∙ same looked within) in
-        (it.0, subst (λ (p : Point). Goes plan p it.0 (tries.points j)) from it.1)
+        (it.0, subst (λ (p : Point). TriedGoes plan kinds p it.0 (tries.points j)) from it.1)
 
-    steps : SumsTo (λ i. CountsTo (CanGo plan (tries.points i)) (length plan)) (looked + 1) (length pairs')
+    steps : SumsTo (λ i. CountsTo (CanGo plan kinds (tries.points i)) (length plan)) (looked + 1) (length pairs')
     steps =
         let one = tries.count in
-        sums_on (λ i. CountsTo (CanGo plan (tries.points i)) (length plan)) looked (length pairs) one.0 (length pairs')
-        (sums_same (λ i. CountsTo (CanGo plan (point i)) (length plan)) (λ i. CountsTo (CanGo plan (tries.points i)) (length plan)) looked (length pairs)
-        (λ i k below it. subst (λ (p : Point). CountsTo (CanGo plan p) (length plan) k) (sym (same i (omega (arith, below, within)))) it) so.counts.of_steps)
-        (subst (λ (p : Point). CountsTo (CanGo plan p) (length plan) one.0) (sym (same looked within)) one.1)
+        sums_on (λ i. CountsTo (CanGo plan kinds (tries.points i)) (length plan)) looked (length pairs) one.0 (length pairs')
+        (sums_same (λ i. CountsTo (CanGo plan kinds (point i)) (length plan)) (λ i. CountsTo (CanGo plan kinds (tries.points i)) (length plan)) looked (length pairs)
+        (λ i k below it. subst (λ (p : Point). CountsTo (CanGo plan kinds p) (length plan) k) (sym (same i (omega (arith, below, within)))) it) so.counts.of_steps)
+        (subst (λ (p : Point). CountsTo (CanGo plan kinds p) (length plan) one.0) (sym (same looked within)) one.1)
         one.2
 
     count : CountsTo (λ i. Hangs plan (tries.points i)) (looked + 1) hangs'
@@ -182,8 +191,8 @@ pub on_refusal : {X E so : Type 0} (r : Result X E) → so → OnErr r so
 on_refusal (Ok x) it = tt
 on_refusal (Err e) it = it
 
-pub under_way : (plan : Plan) (start : Point) (most : ℕ) (point : ℕ → Point) (met : ℕ → ℕ) (looked : ℕ) → AreMetInTurn plan start point met looked → HasLeft most met looked → IsUnderWay plan start most met looked
-under_way plan start most point met looked turns left = record { point = point; turns = turns; left = left.0; few = left.1 }
+pub under_way : (plan : Plan) (kinds : List ℕ) (start : Point) (most : ℕ) (point : ℕ → Point) (met : ℕ → ℕ) (looked : ℕ) → AreKinds plan start.state.threads kinds → AreMetInTurn plan kinds start point met looked → HasLeft most met looked → IsUnderWay plan start most met looked
+under_way plan kinds start most point met looked alike turns left = record { kinds = kinds; alike = alike; point = point; turns = turns; left = left.0; few = left.1 }
 
 pub left_none : (most : ℕ) (met : ℕ → ℕ) → HasLeft most met 0
 left_none most met = (λ i below. absurd (omega (arith, below)), λ i some below. absurd (omega (arith, below)))
@@ -204,17 +213,17 @@ left_more most met looked states within few so = (
 
 -- ---- where the bound is told of
 
-pub tells_bound : (plan : Plan) (s : State) (visits : List Visit) (most looked states hangs : ℕ) (first : Option ℕ) (point : ℕ → Point) (told : OrderVerdict)
-    → AreLooked plan (beginning plan s) visits looked first point → CountsTo (λ i. Hangs plan (point i)) looked hangs
+pub tells_bound : (plan : Plan) (kinds : List ℕ) (s : State) (visits : List Visit) (most looked states hangs : ℕ) (first : Option ℕ) (point : ℕ → Point) (told : OrderVerdict)
+    → AreLooked plan kinds (beginning plan s) visits looked first point → CountsTo (λ i. Hangs plan (point i)) looked hangs
     → states ≡ length visits → (looked < states → most < states) → LiesAt visits looked first told → TellsBound plan (beginning plan s) (point looked) most looked states hangs told
-tells_bound plan s visits most looked states hangs first point (verdict.Met level) so count all over lies = record {
+tells_bound plan kinds s visits most looked states hangs first point (verdict.Met level) so count all over lies = record {
   many = over (let more = lies.1 in omega (arith, more, all));
   left = let more = lies.1 in omega (arith, more, all);
   none = counts_none (λ i. Hangs plan (point i)) looked hangs (subst (IsFirst plan point looked) lies.0 so.told) count;
   deep = (reverse lies.2, length-reverse lies.2 ∙ lies.3, order_of plan (beginning plan s) lies.2 (point looked) (lies.4 plan (beginning plan s) point so.walk));
 }
-tells_bound plan s visits most looked states hangs first point verdict.None so count all over lies = tt
-tells_bound plan s visits most looked states hangs first point (verdict.Hangs lanes loss) so count all over lies = tt
+tells_bound plan kinds s visits most looked states hangs first point verdict.None so count all over lies = tt
+tells_bound plan kinds s visits most looked states hangs first point (verdict.Hangs lanes loss) so count all over lies = tt
 
 -- ---- what the watcher learns
 

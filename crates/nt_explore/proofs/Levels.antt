@@ -1,33 +1,32 @@
 -- What a search has come to, level by level.
-use Rattle.std.proofs.Common.{mul_comm, ◌≡◌, ◌<◌, ◌≤◌, ℕ, ◌+◌, ◌*◌, ◌-◌, Contains, Bool, true, false, List, [], ◌∷◌, length, refl, sym, ap, ◌∙◌, subst, arith, Option, Some, None, ltb, inl, inr, ◌⊎◌}
+use Rattle.std.proofs.Common.{mul_comm, ◌≡◌, ◌<◌, ◌≤◌, ℕ, ◌+◌, ◌*◌, ◌-◌, Contains, Bool, true, false, List, [], length, refl, sym, ap, ◌∙◌, subst, arith, Option, Some, None, ltb, inl, inr, ◌⊎◌}
 use Rattle.std.specs.Prelude.{reverse, ◌↔◌}
 use Rattle.std.proofs.lemmas.Bool.{false≢true}
 use Rattle.std.proofs.lemmas.Bool.Decides.{nat_tests}
-use Rattle.std.proofs.lemmas.List.{length-replicate, length-reverse}
+use Rattle.std.proofs.lemmas.List.{length-reverse}
 use Rattle.nt_calls.specs.State.{State}
 use Rattle.std.proofs.lemmas.Nat.{mul-add-lt, rows}
 use Rattle.nt_calls.specs.State.{pends}
 use Rattle.nt_look.specs.Hangs.{marked}
-use Rattle.nt_look.specs.Orders.{Plan, Point, Goes, Order, Hangs, IsLost, NoneHangs, NoneHangsWithin, IsShortestHang, IsShortestLoss, steps, place}
-use Rattle.nt_look.proofs.Searching.{steps_counted, lane_there}
+use Rattle.nt_look.specs.Orders.{Plan, Point, Goes, Hangs, IsLost, NoneHangs, NoneHangsWithin, IsShortestHang, IsShortestLoss, steps, place}
+use Rattle.nt_look.proofs.Searching.{lane_there}
+use Rattle.nt_apart.specs.Fewer.{IsLowestChosen, LosesOne}
 use Rattle.nt_explore.specs.declared.met.Visit.{Visit}
+use Rattle.nt_explore.specs.Lanes.{TriedGoes, is_tried}
 use Rattle.nt_explore.specs.Search.{beginning}
 use Rattle.nt_explore.specs.Walk.{parent_of, lane_of, IsWalk, HasPoint, Tries, Arrives}
 use Rattle.nt_explore.specs.declared.loss.Edge.{Edge}
 use Rattle.nt_explore.specs.declared.loss.Edges.{Edges}
 use Rattle.nt_explore.specs.Levels.{IsFirst, AreLooked, AreEdges, IsEdge, IsRow, IsColumn, IsFirstMark, IsFirstLost, IsFirstLoss, IsLostThere, IsSearch, AreMet, IsCounted, first_then, passed}
 use Rattle.nt_explore.proofs.Losing.{below_or, AreOnward, lost_forth, lost_back, passed_tells, length_passed}
-use Rattle.nt_explore.proofs.Walks.{deeper, goes_wide, one_visit, steps_none}
-use Rattle.nt_explore.proofs.Ways.{order_of}
+use Rattle.nt_explore.proofs.Walks.{deeper, one_visit}
+use Rattle.nt_explore.proofs.Ways.{order_of, begins_wide, before_of, come_before, comes_to_loss, counted, none_hangs, none_within, shortest, depth_of}
 use Rattle.nt_explore.proofs.Counting.{met_begins}
 
 -- ---- the start
 
-pub begins_wide : (plan : Plan) (s : State) → length (beginning plan s).at ≡ length plan
-begins_wide plan s = length-replicate (length plan) 0
-
-pub begins : (plan : Plan) (s : State) → AreLooked plan (beginning plan s) one_visit 0 None (λ i. beginning plan s)
-begins plan s = record {
+pub begins : (plan : Plan) (kinds : List ℕ) (s : State) → AreLooked plan kinds (beginning plan s) one_visit 0 None (λ i. beginning plan s)
+begins plan kinds s = record {
   walk = record {
     some = omega arith;
     first = refl;
@@ -41,6 +40,7 @@ begins plan s = record {
   rising = λ i j before below. omega arith;
   near = λ j more below. omega arith;
   closed = λ i lane q below. absurd (omega (arith, below));
+  lowest = λ i below. absurd (omega (arith, below));
   told = λ i below. absurd (omega (arith, below));
 }
 
@@ -63,8 +63,8 @@ first_more plan point points looked hung (Some h) same told is = (
   λ i below hangs. let before = is.0 in is.2 i below (subst (Hangs plan) (same i (omega (arith, below, before))) hangs),
 )
 
-pub look_more : (plan : Plan) (start : Point) (old new : List Visit) (looked : ℕ) (hung : Bool) (first : Option ℕ) (point : ℕ → Point) → AreLooked plan start old looked first point → looked < length old → (hung ≡ true ↔ Hangs plan (point looked)) → (pairs more : List Edge) → (tries : Tries plan start old new pairs more (point looked) looked (length plan) point) → AreLooked plan start new (looked + 1) (first_then hung looked first) tries.points
-look_more plan start old new looked hung first point so within told pairs more tries = record {
+pub look_more : (plan : Plan) (kinds : List ℕ) (start : Point) (old new : List Visit) (looked : ℕ) (hung : Bool) (first : Option ℕ) (point : ℕ → Point) → AreLooked plan kinds start old looked first point → looked < length old → (hung ≡ true ↔ Hangs plan (point looked)) → IsLowestChosen plan (point looked) (is_tried kinds (point looked)) → (pairs more : List Edge) → (tries : Tries plan kinds start old new pairs more (point looked) looked (length plan) point) → AreLooked plan kinds start new (looked + 1) (first_then hung looked first) tries.points
+look_more plan kinds start old new looked hung first point so within told least pairs more tries = record {
   walk = tries.grows.walk;
   within = omega (arith, within, longer);
   rising = rising;
@@ -74,6 +74,7 @@ look_more plan start old new looked hung first point so within told pairs more t
       let close = near j below in
       omega (arith, up, at, close);
   closed = λ i lane q below goes. closed i lane q goes (below_or i looked below);
+  lowest = λ i below. lowest i (below_or i looked below);
   told = first_more plan point tries.points looked hung first (λ i below. same i (omega (arith, below, within))) told so.told;
 }
   where
@@ -107,92 +108,30 @@ look_more plan start old new looked hung first point so within told pairs more t
             let at = tries.deep j (grind (arith, nat_tests, e)) below in
             let close = near i (omega (arith, before, below)) in omega (arith, at, close)
 
-    closed : (i lane : ℕ) (q : Point) → Goes plan (tries.points i) lane q → (i < looked) ⊎ (i ≡ looked) → HasPoint new tries.points q
+    lowest : (i : ℕ) → (i < looked) ⊎ (i ≡ looked) → IsLowestChosen plan (tries.points i) (is_tried kinds (tries.points i))
+    lowest i (inl less) = subst (λ (p : Point). IsLowestChosen plan p (is_tried kinds p)) (sym (same i (omega (arith, less, within)))) (so.lowest i less)
+    lowest i (inr is) = subst (λ (p : Point). IsLowestChosen plan p (is_tried kinds p)) (sym (ap tries.points is ∙ same looked within)) least
+
+    closed : (i lane : ℕ) (q : Point) → TriedGoes plan kinds (tries.points i) lane q → (i < looked) ⊎ (i ≡ looked) → HasPoint new tries.points q
     closed i lane q goes (inl before) =
-        let has = so.closed i lane q before (subst (λ (p : Point). Goes plan p lane q) (same i (omega (arith, before, within))) goes) in
+        let has = so.closed i lane q before (subst (λ (p : Point). TriedGoes plan kinds p lane q) (same i (omega (arith, before, within))) goes) in
         let inside = has.1 in
         (has.0, omega (arith, inside, longer), same has.0 has.1 ∙ has.2)
     closed i lane q goes (inr last) =
-        let here : Goes plan (point looked) lane q = subst (λ (p : Point). Goes plan p lane q) (ap tries.points last ∙ same looked within) goes in
-        tries.tried lane q (lane_there plan lane (place (point looked) lane) here.ask here.next) here
-
--- ---- what an order comes to
-
-reach : (plan : Plan) (visits : List Visit) (point : ℕ → Point) (most : ℕ) → ((i lane : ℕ) (q : Point) → i < length visits → steps (point i).at < most → Goes plan (point i) lane q → HasPoint visits point q) → (lanes : List ℕ) (a p : Point) → length a.at ≡ length plan → HasPoint visits point a → steps a.at + length lanes ≤ most → Order plan a lanes p → HasPoint visits point p
-reach plan visits point most closed [] a p wide has deep order = (has.0, has.1, has.2 ∙ sym order)
-reach plan visits point most closed (lane ∷ lanes) a p wide has deep order =
-    let mid : Point = order.0 in
-    let goes : Goes plan a lane mid = order.1 in
-    let at = ap (λ (z : Point). steps z.at) has.2 in
-    let here : Goes plan (point has.0) lane mid = subst (λ (z : Point). Goes plan z lane mid) (sym has.2) goes in
-    let next = closed has.0 lane mid has.1 (omega (arith, at, deep)) here in
-    let one = deeper plan a mid lane wide goes in
-    reach plan visits point most closed lanes mid p (goes_wide plan a lane mid goes wide) next (omega (arith, one, deep)) order.2
-
-pub begun : (plan : Plan) (s : State) (visits : List Visit) (looked : ℕ) (first : Option ℕ) (point : ℕ → Point) → AreLooked plan (beginning plan s) visits looked first point → HasPoint visits point (beginning plan s)
-begun plan s visits looked first point so = (0, so.walk.some, so.walk.first)
-
-counted : (plan : Plan) (s : State) (lanes : List ℕ) (p : Point) → Order plan (beginning plan s) lanes p → steps p.at ≡ length lanes
-counted plan s lanes p order = let it = steps_counted plan lanes (beginning plan s) p (begins_wide plan s) order in let none = steps_none (length plan) in omega (arith, it, none)
-
--- whoever is less deep comes before
-before_of : (visits : List Visit) (point : ℕ → Point) (i h : ℕ) → ((i j : ℕ) → i ≤ j → j < length visits → steps (point i).at ≤ steps (point j).at) → i < length visits → steps (point i).at < steps (point h).at → i < h
-before_of visits point i h rising below less = go (ltb i h) refl
-  where
-    go : (b : Bool) → ltb i h ≡ b → i < h
-    go true e = grind (arith, nat_tests, e)
-    go false e = let up = rising h i (grind (arith, nat_tests, e)) below in absurd (omega (arith, up, less))
-
--- an order shorter than the depth of a point comes to one before it, where all before it were looked at
-come_before : (plan : Plan) (s : State) (visits : List Visit) (looked h : ℕ) (first : Option ℕ) (point : ℕ → Point) → AreLooked plan (beginning plan s) visits looked first point → h ≤ looked → h < length visits → (lanes : List ℕ) (p : Point) → length lanes < steps (point h).at → Order plan (beginning plan s) lanes p → (j : ℕ) × (j < h) × (point j ≡ p)
-come_before plan s visits looked h first point so within there lanes p short order =
-    let none = steps_none (length plan) in
-    let has = reach plan visits point (steps (point h).at) (λ i lane q below less goes. so.closed i lane q (let before = before_of visits point i h so.rising below less in omega (arith, before, within)) goes) lanes (beginning plan s) p (begins_wide plan s) (begun plan s visits looked first point so) (omega (arith, none, short)) order in
-    let deep = counted plan s lanes p order in
-    let at = ap (λ (z : Point). steps z.at) has.2 in
-    (has.0, before_of visits point has.0 h so.rising has.1 (omega (arith, deep, at, short)), has.2)
-
-pub none_hangs : (plan : Plan) (s : State) (visits : List Visit) (looked : ℕ) (point : ℕ → Point) → AreLooked plan (beginning plan s) visits looked None point → length visits ≤ looked → NoneHangs plan (beginning plan s)
-none_hangs plan s visits looked point so all lanes p order hangs =
-    let has = reach plan visits point (steps (beginning plan s).at + length lanes) (λ i lane q below less goes. so.closed i lane q (omega (arith, below, all)) goes) lanes (beginning plan s) p (begins_wide plan s) (begun plan s visits looked None point so) (omega arith) order in
-    let inside = has.1 in
-    so.told has.0 (omega (arith, inside, all)) (subst (Hangs plan) (sym has.2) hangs)
-
-pub none_within : (plan : Plan) (s : State) (visits : List Visit) (looked level : ℕ) (point : ℕ → Point) → AreLooked plan (beginning plan s) visits looked None point → looked < length visits → level < steps (point looked).at → NoneHangsWithin plan (beginning plan s) level
-none_within plan s visits looked level point so more deep lanes p short order hangs =
-    let has = come_before plan s visits looked looked None point so (omega arith) more lanes p (omega (arith, deep, short)) order in
-    so.told has.0 has.1 (subst (Hangs plan) (sym has.2) hangs)
-
-pub shortest : (plan : Plan) (s : State) (visits : List Visit) (looked h : ℕ) (way : List ℕ) (point : ℕ → Point) → AreLooked plan (beginning plan s) visits looked (Some h) point → Arrives plan (beginning plan s) way (point h) → IsShortestHang plan (beginning plan s) (reverse way)
-shortest plan s visits looked h way point so came =
-    let order = order_of plan (beginning plan s) way (point h) came in
-    let deep = counted plan s (reverse way) (point h) order in
-    let within = so.within in
-    let before = so.told.0 in
-    record {
-      point = point h;
-      order = order;
-      hangs = so.told.1;
-      least = λ others p short order' hangs.
-          let has = come_before plan s visits looked h (Some h) point so (omega (arith, before)) (omega (arith, before, within)) others p (omega (arith, short, deep)) order' in
-          so.told.2 has.0 has.1 (subst (Hangs plan) (sym has.2) hangs);
-    }
-
--- how deep a point lies
-pub depth_of : (plan : Plan) (s : State) (way : List ℕ) (p : Point) → Arrives plan (beginning plan s) way p → steps p.at ≡ length (reverse way)
-depth_of plan s way p came = counted plan s (reverse way) p (order_of plan (beginning plan s) way p came)
+        let here : TriedGoes plan kinds (point looked) lane q = subst (λ (p : Point). TriedGoes plan kinds p lane q) (ap tries.points last ∙ same looked within) goes in
+        tries.tried lane q (lane_there plan lane (place (point looked) lane) here.1.ask here.1.next) here
 
 -- ---- the search goes on
 
-edges_more : (plan : Plan) (start : Point) (old new : List Visit) (threads looked : ℕ) (pairs more : List Edge) (waits row : List Bool) (point : ℕ → Point)
+edges_more : (plan : Plan) (kinds : List ℕ) (start : Point) (old new : List Visit) (threads looked : ℕ) (pairs more : List Edge) (waits row : List Bool) (point : ℕ → Point)
     → IsWalk plan start old point
     → looked < length old
-    → AreEdges plan threads pairs waits looked (length old) point
-    → (tries : Tries plan start old new pairs more (point looked) looked (length plan) point)
+    → AreEdges plan kinds threads pairs waits looked (length old) point
+    → (tries : Tries plan kinds start old new pairs more (point looked) looked (length plan) point)
     → IsRow waits row threads (point looked).state
     → ((t : ℕ) → pends (point looked).state t ≡ true → t < start.state.threads)
-    → AreEdges plan threads more row (looked + 1) (length new) tries.points
-edges_more plan start old new threads looked pairs more waits row point walk within so tries noted known = record {
+    → AreEdges plan kinds threads more row (looked + 1) (length new) tries.points
+edges_more plan kinds start old new threads looked pairs more waits row point walk within so tries noted known = record {
   goes = λ e has. goes e (tries.leads.goes e has);
   rises = tries.leads.rises so.rises (λ e has. let it = (so.goes e has).0 in omega (arith, it));
   all = λ i lane q below goes. all i lane q goes (below_or i looked below);
@@ -228,14 +167,14 @@ edges_more plan start old new threads looked pairs more waits row point walk wit
           subst (λ (p : Point). Goes plan p it.2 (tries.points e.to)) (sym (ap tries.points it.0 ∙ same looked within)) it.3,
         )
 
-    all : (i lane : ℕ) (q : Point) → Goes plan (tries.points i) lane q → (i < looked) ⊎ (i ≡ looked) → (e : Edge) × Contains more e × (e.from ≡ i) × (tries.points e.to ≡ q)
+    all : (i lane : ℕ) (q : Point) → TriedGoes plan kinds (tries.points i) lane q → (i < looked) ⊎ (i ≡ looked) → (e : Edge) × Contains more e × (e.from ≡ i) × (tries.points e.to ≡ q)
     all i lane q goes (inl before) =
-        let it = so.all i lane q before (subst (λ (p : Point). Goes plan p lane q) (same i (omega (arith, before, within))) goes) in
+        let it = so.all i lane q before (subst (λ (p : Point). TriedGoes plan kinds p lane q) (same i (omega (arith, before, within))) goes) in
         let to = (so.goes it.0 it.1).1 in
         (it.0, tries.leads.kept it.0 it.1, it.2, same it.0.to to ∙ it.3)
     all i lane q goes (inr last) =
-        let here : Goes plan (point looked) lane q = subst (λ (p : Point). Goes plan p lane q) (ap tries.points last ∙ same looked within) goes in
-        let it = tries.leads.all lane q (lane_there plan lane (place (point looked) lane) here.ask here.next) here in
+        let here : TriedGoes plan kinds (point looked) lane q = subst (λ (p : Point). TriedGoes plan kinds p lane q) (ap tries.points last ∙ same looked within) goes in
+        let it = tries.leads.all lane q (lane_there plan lane (place (point looked) lane) here.1.ask here.1.next) here in
         (it.0, it.1, it.2 ∙ sym last, it.4)
 
     told : (i t : ℕ) → t < threads → (i < looked) ⊎ (i ≡ looked) → marked row (i * threads + t) ≡ pends (tries.points i).state t
@@ -261,37 +200,38 @@ lost_more plan point points looked true None same gone told lost = let it = gone
 lost_more plan point points looked false None same gone told lost = tt
 lost_more plan point points looked hung (Some h) same gone told lost = let before = told.0 in (lost.0, subst (λ (p : Point). IsLost plan p lost.0) (sym (same h (omega (arith, before)))) lost.1)
 
-pub search_more : (plan : Plan) (start : Point) (old new : List Visit) (edges more : Edges) (looked : ℕ) (hung : Bool) (first last : Option ℕ) (p : Point) → looked < length old
+pub search_more : (plan : Plan) (kinds : List ℕ) (start : Point) (old new : List Visit) (edges more : Edges) (looked : ℕ) (hung : Bool) (first last : Option ℕ) (p : Point) → looked < length old
     → more.threads ≡ edges.threads
     → ((point : ℕ → Point) → IsWalk plan start old point → p ≡ point looked)
     → (hung ≡ true ↔ Hangs plan p)
     → (hung ≡ true → (t : ℕ) × IsLost plan p t)
-    → ((point : ℕ → Point) → IsWalk plan start old point → point looked ≡ p → Tries plan start old new edges.pairs.items more.pairs.items p looked (length plan) point)
+    → IsLowestChosen plan p (is_tried kinds p)
+    → ((point : ℕ → Point) → IsWalk plan start old point → point looked ≡ p → Tries plan kinds start old new edges.pairs.items more.pairs.items p looked (length plan) point)
     → IsRow edges.waits.items more.waits.items edges.threads p.state
     → ((t : ℕ) → pends p.state t ≡ true → t < start.state.threads)
-    → last ≡ first_then hung looked first → (search : IsSearch plan start old edges looked first)
-    → (tries : Tries plan start old new edges.pairs.items more.pairs.items (search.0 looked) looked (length plan) search.0)
-    × AreLooked plan start new (looked + 1) last tries.points
-    × AreEdges plan more.threads more.pairs.items more.waits.items (looked + 1) (length new) tries.points
+    → last ≡ first_then hung looked first → (search : IsSearch plan kinds start old edges looked first)
+    → (tries : Tries plan kinds start old new edges.pairs.items more.pairs.items (search.0 looked) looked (length plan) search.0)
+    × AreLooked plan kinds start new (looked + 1) last tries.points
+    × AreEdges plan kinds more.threads more.pairs.items more.waits.items (looked + 1) (length new) tries.points
     × IsLostThere plan tries.points last
-search_more plan start old new edges more looked hung first last p below threads is told gone tries noted known becomes search =
+search_more plan kinds start old new edges more looked hung first last p below threads is told gone least tries noted known becomes search =
     let point : ℕ → Point = search.0 in
     let so = search.1 in
     let here = is point so.walk in
-    let tried = subst (λ (z : Point). Tries plan start old new edges.pairs.items more.pairs.items z looked (length plan) point) here (tries point so.walk (sym here)) in (
+    let tried = subst (λ (z : Point). Tries plan kinds start old new edges.pairs.items more.pairs.items z looked (length plan) point) here (tries point so.walk (sym here)) in (
       tried,
-      subst (λ (f : Option ℕ). AreLooked plan start new (looked + 1) f tried.points) (sym becomes) (look_more plan start old new looked hung first point so below (subst (λ (z : Point). hung ≡ true ↔ Hangs plan z) here told) edges.pairs.items more.pairs.items tried),
-      subst (λ (n : ℕ). AreEdges plan n more.pairs.items more.waits.items (looked + 1) (length new) tried.points) (sym threads)
-          (edges_more plan start old new edges.threads looked edges.pairs.items more.pairs.items edges.waits.items more.waits.items point so.walk below search.2 tried (subst (λ (z : Point). IsRow edges.waits.items more.waits.items edges.threads z.state) here noted) (subst (λ (z : Point). (t : ℕ) → pends z.state t ≡ true → t < start.state.threads) here known)),
+      subst (λ (f : Option ℕ). AreLooked plan kinds start new (looked + 1) f tried.points) (sym becomes) (look_more plan kinds start old new looked hung first point so below (subst (λ (z : Point). hung ≡ true ↔ Hangs plan z) here told) (subst (λ (z : Point). IsLowestChosen plan z (is_tried kinds z)) here least) edges.pairs.items more.pairs.items tried),
+      subst (λ (n : ℕ). AreEdges plan kinds n more.pairs.items more.waits.items (looked + 1) (length new) tried.points) (sym threads)
+          (edges_more plan kinds start old new edges.threads looked edges.pairs.items more.pairs.items edges.waits.items more.waits.items point so.walk below search.2 tried (subst (λ (z : Point). IsRow edges.waits.items more.waits.items edges.threads z.state) here noted) (subst (λ (z : Point). (t : ℕ) → pends z.state t ≡ true → t < start.state.threads) here known)),
       subst (IsLostThere plan tried.points) (sym becomes) (lost_more plan point tried.points looked hung first (λ i less. tried.grows.same i (omega (arith, less, below))) (subst (λ (z : Point). hung ≡ true → (t : ℕ) × IsLost plan z t) here gone) so.told search.3),
     )
 
-pub search_begins : (plan : Plan) (s : State) (edges : Edges) → edges.threads ≡ s.threads → edges.pairs.items ≡ [] → edges.waits.items ≡ [] → IsCounted plan (beginning plan s) one_visit edges 0 (record { hangs = 0; first = None }) (λ i. 1)
-search_begins plan s edges threads pairs waits = (
+pub search_begins : (plan : Plan) (kinds : List ℕ) (s : State) (edges : Edges) → edges.threads ≡ s.threads → edges.pairs.items ≡ [] → edges.waits.items ≡ [] → IsCounted plan kinds (beginning plan s) one_visit edges 0 (record { hangs = 0; first = None }) (λ i. 1)
+search_begins plan kinds s edges threads pairs waits = (
   (
     (λ i. beginning plan s),
-    begins plan s,
-    subst (λ (es : List Edge). AreEdges plan edges.threads es edges.waits.items 0 1 (λ i. beginning plan s)) (sym pairs) (subst (λ (ws : List Bool). AreEdges plan edges.threads [] ws 0 1 (λ i. beginning plan s)) (sym waits) (record {
+    begins plan kinds s,
+    subst (λ (es : List Edge). AreEdges plan kinds edges.threads es edges.waits.items 0 1 (λ i. beginning plan s)) (sym pairs) (subst (λ (ws : List Bool). AreEdges plan kinds edges.threads [] ws 0 1 (λ i. beginning plan s)) (sym waits) (record {
       goes = λ e (k, below, is). absurd (omega (arith, below));
       rises = tt;
       all = λ i lane q below. absurd (omega (arith, below));
@@ -302,31 +242,31 @@ search_begins plan s edges threads pairs waits = (
     })),
     tt,
   ),
-  subst (λ (n : ℕ). AreMet plan (beginning plan s) 0 1 n 0 (λ i. beginning plan s) (λ i. 1)) (sym (ap (λ (es : List Edge). length es) pairs)) (met_begins plan s),
+  subst (λ (n : ℕ). AreMet plan kinds (beginning plan s) 0 1 n 0 (λ i. beginning plan s) (λ i. 1)) (sym (ap (λ (es : List Edge). length es) pairs)) (met_begins plan kinds s),
 )
 
 -- ---- what it has come to
 
-pub hangs_there : (plan : Plan) (s : State) (visits : List Visit) (edges : Edges) (looked h : ℕ) (way lanes : List ℕ) → lanes ≡ reverse way → ((point : ℕ → Point) → IsWalk plan (beginning plan s) visits point → Arrives plan (beginning plan s) way (point h)) → IsSearch plan (beginning plan s) visits edges looked (Some h) → IsShortestHang plan (beginning plan s) lanes
-hangs_there plan s visits edges looked h way lanes is came search = subst (IsShortestHang plan (beginning plan s)) (sym is) (shortest plan s visits looked h way search.0 search.1 (came search.0 search.1.walk))
+pub hangs_there : (plan : Plan) (kinds : List ℕ) (s : State) (visits : List Visit) (edges : Edges) (looked h : ℕ) (way lanes : List ℕ) → lanes ≡ reverse way → ((point : ℕ → Point) → IsWalk plan (beginning plan s) visits point → Arrives plan (beginning plan s) way (point h)) → IsSearch plan kinds (beginning plan s) visits edges looked (Some h) → IsShortestHang plan (beginning plan s) lanes
+hangs_there plan kinds s visits edges looked h way lanes is came search = subst (IsShortestHang plan (beginning plan s)) (sym is) (shortest plan kinds s visits looked h way search.0 search.1 (came search.0 search.1.walk))
 
-pub none_there : (plan : Plan) (s : State) (visits : List Visit) (edges : Edges) (looked : ℕ) → length visits ≤ looked → IsSearch plan (beginning plan s) visits edges looked None → NoneHangs plan (beginning plan s)
-none_there plan s visits edges looked all search = none_hangs plan s visits looked search.0 search.1 all
+pub none_there : (plan : Plan) (kinds : List ℕ) (s : State) (visits : List Visit) (edges : Edges) (looked : ℕ) → length visits ≤ looked → IsSearch plan kinds (beginning plan s) visits edges looked None → NoneHangs plan (beginning plan s)
+none_there plan kinds s visits edges looked all search = none_hangs plan kinds s visits looked search.0 search.1 all
 
-pub bound_there : (plan : Plan) (s : State) (visits : List Visit) (edges : Edges) (looked level : ℕ) (way : List ℕ) → 0 < looked → looked < length visits → level ≡ length way - 1 → ((point : ℕ → Point) → IsWalk plan (beginning plan s) visits point → Arrives plan (beginning plan s) way (point looked)) → IsSearch plan (beginning plan s) visits edges looked None → NoneHangsWithin plan (beginning plan s) level
-bound_there plan s visits edges looked level way some more is came search =
+pub bound_there : (plan : Plan) (kinds : List ℕ) (s : State) (visits : List Visit) (edges : Edges) (looked level : ℕ) (way : List ℕ) → 0 < looked → looked < length visits → level ≡ length way - 1 → ((point : ℕ → Point) → IsWalk plan (beginning plan s) visits point → Arrives plan (beginning plan s) way (point looked)) → IsSearch plan kinds (beginning plan s) visits edges looked None → NoneHangsWithin plan (beginning plan s) level
+bound_there plan kinds s visits edges looked level way some more is came search =
     let point : ℕ → Point = search.0 in
     let walk = search.1.walk in
     let deep = depth_of plan s way (point looked) (came point walk) in
     let count = length-reverse way in
     let before = walk.behind looked some more in
     let one = deeper plan (point (parent_of visits looked)) (point looked) (lane_of visits looked) (walk.wide (parent_of visits looked) (omega (arith, before, more))) (walk.came looked some more) in
-    none_within plan s visits looked level point search.1 more (omega (arith, deep, count, one, is))
+    none_within plan kinds s visits looked level point search.1 more (omega (arith, deep, count, one, is))
 
 -- ---- since when a wait was lost
 
-onward : (plan : Plan) (start : Point) (visits : List Visit) (threads looked : ℕ) (pairs : List Edge) (waits : List Bool) (first : Option ℕ) (point : ℕ → Point) → AreLooked plan start visits looked first point → AreEdges plan threads pairs waits looked (length visits) point → AreOnward plan point (length visits) pairs
-onward plan start visits threads looked pairs waits first point so edges e has =
+onward : (plan : Plan) (kinds : List ℕ) (start : Point) (visits : List Visit) (threads looked : ℕ) (pairs : List Edge) (waits : List Bool) (first : Option ℕ) (point : ℕ → Point) → AreLooked plan kinds start visits looked first point → AreEdges plan kinds threads pairs waits looked (length visits) point → AreOnward plan point (length visits) pairs
+onward plan kinds start visits threads looked pairs waits first point so edges e has =
     let it = edges.goes e has in
     let from = it.0 in
     let within = so.within in
@@ -334,22 +274,22 @@ onward plan start visits threads looked pairs waits first point so edges e has =
     (before_of visits point e.from e.to so.rising (omega (arith, from, within)) (omega (arith, one)), it.1, it.2, it.3)
 
 -- what the marks of a thread tell
-lost_told : (plan : Plan) (start : Point) (visits : List Visit) (threads t : ℕ) (pairs : List Edge) (waits column : List Bool) (first : Option ℕ) (point : ℕ → Point) → t < threads → AreLooked plan start visits (length visits) first point → AreEdges plan threads pairs waits (length visits) (length visits) point → IsColumn waits column threads (length visits) t
+lost_told : (plan : Plan) (kinds : List ℕ) (start : Point) (visits : List Visit) (threads t : ℕ) (pairs : List Edge) (waits column : List Bool) (first : Option ℕ) (point : ℕ → Point) → t < threads → AreLooked plan kinds start visits (length visits) first point → AreEdges plan kinds threads pairs waits (length visits) (length visits) point → IsColumn waits column threads (length visits) t
     → (i : ℕ) → i < length visits → (marked (passed pairs column) i ≡ true) ↔ IsLost plan (point i) t
-lost_told plan start visits threads t pairs waits column first point inside so edges row i below =
-    let on = onward plan start visits threads (length visits) pairs waits first point so edges in
-    let it = passed_tells plan point (length visits) t 0 pairs column row.count (λ j there. row.told j there ∙ edges.told j t there inside) edges.rises on (λ j lane q low there goes. edges.all j lane q there goes) (λ e has. omega arith) i below in (
-      λ m. lost_forth plan point (length visits) t 0 pairs i (λ j lane q low there goes. edges.all j lane q there goes) (omega arith) below (it.0 m),
+lost_told plan kinds start visits threads t pairs waits column first point inside so edges row i below =
+    let on = onward plan kinds start visits threads (length visits) pairs waits first point so edges in
+    let it = passed_tells plan kinds point (length visits) t 0 pairs column so.lowest row.count (λ j there. row.told j there ∙ edges.told j t there inside) edges.rises on (λ j lane q low there goes. edges.all j lane q there goes) (λ e has. omega arith) i below in (
+      λ m. lost_forth plan kinds point (length visits) t 0 pairs i so.lowest (λ j lane q low there goes. edges.all j lane q there goes) (omega arith) below (it.0 m),
       λ lost. it.1 (lost_back plan point (length visits) t pairs i on lost),
     )
 
-pub first_told : (plan : Plan) (start : Point) (visits : List Visit) (threads states t : ℕ) (pairs : List Edge) (waits column : List Bool) (first found : Option ℕ) (point : ℕ → Point) → t < threads → (length waits ≡ threads * states → IsColumn waits column threads states t) → IsFirstMark (passed pairs column) found
-    → length visits ≡ states → AreLooked plan start visits states first point → AreEdges plan threads pairs waits states states point → IsFirstLost plan point states t found
-first_told plan start visits threads states t pairs waits column first found point inside row mark count so edges = go found mark
+pub first_told : (plan : Plan) (kinds : List ℕ) (start : Point) (visits : List Visit) (threads states t : ℕ) (pairs : List Edge) (waits column : List Bool) (first found : Option ℕ) (point : ℕ → Point) → t < threads → (length waits ≡ threads * states → IsColumn waits column threads states t) → IsFirstMark (passed pairs column) found
+    → length visits ≡ states → AreLooked plan kinds start visits states first point → AreEdges plan kinds threads pairs waits states states point → IsFirstLost plan point states t found
+first_told plan kinds start visits threads states t pairs waits column first found point inside row mark count so edges = go found mark
   where
     told : (i : ℕ) → i < states → (marked (passed pairs column) i ≡ true) ↔ IsLost plan (point i) t
-    told = subst (λ (n : ℕ). AreLooked plan start visits n first point → AreEdges plan threads pairs waits n n point → IsColumn waits column threads n t → (i : ℕ) → i < n → (marked (passed pairs column) i ≡ true) ↔ IsLost plan (point i) t) count
-        (lost_told plan start visits threads t pairs waits column first point inside) so edges (row edges.count)
+    told = subst (λ (n : ℕ). AreLooked plan kinds start visits n first point → AreEdges plan kinds threads pairs waits n n point → IsColumn waits column threads n t → (i : ℕ) → i < n → (marked (passed pairs column) i ≡ true) ↔ IsLost plan (point i) t) count
+        (lost_told plan kinds start visits threads t pairs waits column first point inside) so edges (row edges.count)
 
     go : (found : Option ℕ) → IsFirstMark (passed pairs column) found → IsFirstLost plan point states t found
     go None none = λ j below lost. false≢true (sym (none j) ∙ (told j below).1 lost)
@@ -360,10 +300,10 @@ first_told plan start visits threads states t pairs waits column first found poi
           λ j below lost. false≢true (sym (it.2 j below) ∙ (told j (omega (arith, below, there))).1 lost),
         )
 
-pub loss_there : (plan : Plan) (s : State) (visits : List Visit) (edges : Edges) (h t : ℕ) (way lanes : List ℕ) (first : Option ℕ) (point : ℕ → Point) → lanes ≡ reverse way → Arrives plan (beginning plan s) way (point h)
-    → AreLooked plan (beginning plan s) visits (length visits) first point → AreEdges plan edges.threads edges.pairs.items edges.waits.items (length visits) (length visits) point
+pub loss_there : (plan : Plan) (kinds : List ℕ) (s : State) (visits : List Visit) (edges : Edges) (h t : ℕ) (way lanes : List ℕ) (first : Option ℕ) (point : ℕ → Point) → lanes ≡ reverse way → Arrives plan (beginning plan s) way (point h)
+    → AreLooked plan kinds (beginning plan s) visits (length visits) first point → AreEdges plan kinds edges.threads edges.pairs.items edges.waits.items (length visits) (length visits) point
     → IsFirstLoss plan point (length visits) edges.threads (Some (h, t)) → IsShortestLoss plan (beginning plan s) lanes t
-loss_there plan s visits edges h t way lanes first point is came so told lost =
+loss_there plan kinds s visits edges h t way lanes first point is came so told lost =
     let order = order_of plan (beginning plan s) way (point h) came in
     let deep = counted plan s (reverse way) (point h) order in
     let top = lost.0 in
@@ -372,15 +312,16 @@ loss_there plan s visits edges h t way lanes first point is came so told lost =
       order = order;
       lost = lost.1;
       least = λ others p u short order' gone.
-          let has = come_before plan s visits (length visits) h first point so (omega (arith, top)) top others p (omega (arith, short, deep)) order' in
+          let has = come_before plan kinds s visits (length visits) h first point (LosesOne plan) so (omega (arith, top)) top others (omega (arith, short, deep)) (comes_to_loss plan kinds (beginning plan s) others p order' (u, gone)) in
           let before = has.1 in
-          let gone' : IsLost plan (point has.0) u = subst (λ (z : Point). IsLost plan z u) (sym has.2) gone in
-          lost.2 has.0 u has.1 (told.known has.0 u (omega (arith, before, top)) (gone' [] (point has.0) refl)) gone';
+          let v = has.2.0 in
+          let gone' : IsLost plan (point has.0) v = has.2.1 in
+          lost.2 has.0 v has.1 (told.known has.0 v (omega (arith, before, top)) (gone' [] (point has.0) refl)) gone';
     })
 
 -- a hang loses a wait, so that there is a first loss
-pub never_none : (plan : Plan) (start : Point) (visits : List Visit) (edges : Edges) (h : ℕ) (search : IsSearch plan start visits edges (length visits) (Some h)) → IsFirstLoss plan search.0 (length visits) edges.threads None → ⊥
-never_none plan start visits edges h search none =
+pub never_none : (plan : Plan) (kinds : List ℕ) (start : Point) (visits : List Visit) (edges : Edges) (h : ℕ) (search : IsSearch plan kinds start visits edges (length visits) (Some h)) → IsFirstLoss plan search.0 (length visits) edges.threads None → ⊥
+never_none plan kinds start visits edges h search none =
     let there = search.1.told.0 in
     let lost = search.3 in
     none h lost.0 there (search.2.known h lost.0 there (lost.1 [] (search.0 h) refl)) lost.1

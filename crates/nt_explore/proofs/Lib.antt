@@ -1,11 +1,9 @@
-pub mod Unique
-pub mod Ways
-pub mod Walks
+pub mod Bare
 pub mod Losing
+pub mod Walks
+pub mod Ways
 pub mod Levels
 pub mod Counting
 pub mod Hung
 pub mod Adding
-pub mod Queues
-pub mod Hashes
 pub mod Slots

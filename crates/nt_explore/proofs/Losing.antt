@@ -1,19 +1,69 @@
--- Since when a wait was lost.
-use Rattle.std.proofs.Common.{◌≡◌, ◌≢◌, ◌<◌, ◌≤◌, ℕ, ◌+◌, ◌*◌, Bool, true, false, List, [], ◌∷◌, ◌++◌, length, refl, sym, ap, ◌∙◌, subst, arith, Option, Some, None, eqb, ltb, inl, inr, ◌⊎◌, Contains}
-use Rattle.std.specs.Prelude.{nat_lt, slice_set, if◌then◌else◌, ◌↔◌}
+-- One order leads to one point; and since when a wait was lost.
+use Rattle.std.proofs.Common.{◌≡◌, ◌≢◌, ℕ, Bool, false, List, [], ◌∷◌, refl, sym, ap, ◌∙◌, subst, Some, ◌<◌, ◌≤◌, ◌+◌, ◌*◌, true, ◌++◌, length, arith, Option, None, eqb, ltb, inl, inr, ◌⊎◌, Contains}
+use Rattle.std.specs.Prelude.{Result, Ok, Err, nat_lt, slice_set, if◌then◌else◌, ◌↔◌}
+use Rattle.nt_status.specs.declared.refusal.Refusal.{Refusal}
+use Rattle.nt_status.specs.declared.refusal.Refusal.TheVariants.{AccessDenied, InvalidHandle, Memory, ThreadGone, InvalidParameter, NotOwner, TooManyPosts, ThreadWaiting, ThreadEnded, UnknownThread, RecursionLimit, MomentBack, JournalFull, HandleLimit}
+use Rattle.nt_calls.specs.declared.call.Reply.{Reply}
+use Rattle.nt_calls.specs.State.{State, pends}
+use Rattle.nt_calls.specs.Runs as runs
+use Rattle.nt_laws.specs.Laws.{wants_memory, AsksCall, question}
+use Rattle.nt_laws.proofs.OneWay.{turn_same}
+use Rattle.nt_look.specs.Orders.{Ask, Calls, Passes, Plan, Point, IsAskMade, Goes, IsLost}
+use Rattle.nt_explore.specs.Walk.{Arrives, edge, Rises, Leads}
 use Rattle.std.proofs.lemmas.Bool.{false≢true}
 use Rattle.std.proofs.lemmas.Bool.Decides.{nat_tests}
 use Rattle.std.proofs.lemmas.List.{get_or-set_same, get_or-set_other, length-set, length_push, get_or_push, get_or_append_left}
 use Rattle.std.proofs.lemmas.List.Elements.{Contains-push, Contains-push_cases, Contains-append_left}
 use Rattle.nt_status.proofs.Lists.{contains_first, contains_later, contains_cases}
-use Rattle.nt_calls.specs.State.{State, pends}
 use Rattle.nt_look.specs.Hangs.{marked}
-use Rattle.nt_look.specs.Orders.{Plan, Point, Goes, IsLost}
-use Rattle.nt_look.proofs.Searching.{loss_forth, loss_back}
+use Rattle.nt_look.proofs.Searching.{loss_forth}
+use Rattle.nt_apart.specs.Fewer.{IsLowestChosen}
 use Rattle.nt_explore.specs.declared.loss.Edge.{Edge}
-use Rattle.nt_explore.proofs.Unique.{goes_same}
-use Rattle.nt_explore.specs.Walk.{edge, Rises, Leads}
+use Rattle.nt_apart.proofs.Chosen.{losses_by_chosen}
+use Rattle.nt_explore.specs.Lanes.{TriedGoes, is_tried}
 use Rattle.nt_explore.specs.Levels.{kept, passed, IsRow, IsColumn, IsFirstLost, IsFirstLoss, earlier}
+
+calm : (r : Result Reply Refusal) → (r ≢ Err Memory) → wants_memory r ≡ false
+calm (Ok reply) other = refl
+calm (Err Memory) other = absurd (other refl)
+calm (Err AccessDenied) other = refl
+calm (Err InvalidHandle) other = refl
+calm (Err ThreadGone) other = refl
+calm (Err InvalidParameter) other = refl
+calm (Err NotOwner) other = refl
+calm (Err TooManyPosts) other = refl
+calm (Err ThreadWaiting) other = refl
+calm (Err ThreadEnded) other = refl
+calm (Err UnknownThread) other = refl
+calm (Err RecursionLimit) other = refl
+calm (Err MomentBack) other = refl
+calm (Err JournalFull) other = refl
+calm (Err HandleLimit) other = refl
+
+made_same : (old : State) (lane : ℕ) (ask : Ask) (a b : State) → IsAskMade old lane ask a → IsAskMade old lane ask b → a ≡ b
+made_same old lane (Calls call) a b x y =
+    let alike : question (runs.Calls lane call x.0 x.1) ≡ question (runs.Calls lane call y.0 y.1) = ap (λ (w : Bool). AsksCall lane call w) (calm x.0 x.2 ∙ sym (calm y.0 y.2)) in
+    (turn_same old a b (runs.Calls lane call x.0 x.1) (runs.Calls lane call y.0 y.1) alike x.3 y.3).1
+made_same old lane (Passes moment) a b x y = (turn_same old a b (runs.Ticks lane moment x.0 x.1) (runs.Ticks lane moment y.0 y.1) refl x.2 y.2).1
+
+some_same : (a b : Ask) → Some a ≡ Some b → a ≡ b
+some_same a b e = (cc)
+
+point_same : (p q : Point) → p.at ≡ q.at → p.state ≡ q.state → p ≡ q
+point_same p q at same = λ i. record { at = at i; state = same i }
+
+-- a lane that goes leads to one point
+pub goes_same : (plan : Plan) (old : Point) (lane : ℕ) (a b : Point) → Goes plan old lane a → Goes plan old lane b → a ≡ b
+goes_same plan old lane a b x y =
+    let ask : x.ask ≡ y.ask = some_same x.ask y.ask (sym x.next ∙ y.next) in
+    point_same a b (x.at ∙ sym y.at) (made_same old.state lane y.ask a.state b.state (subst (λ (z : Ask). IsAskMade old.state lane z a.state) ask x.made) y.made)
+
+-- and so do lanes
+pub arrives_same : (plan : Plan) (start : Point) (lanes : List ℕ) (a b : Point) → Arrives plan start lanes a → Arrives plan start lanes b → a ≡ b
+arrives_same plan start [] a b x y = x ∙ sym y
+arrives_same plan start (lane ∷ lanes) a b x y =
+    let mid = arrives_same plan start lanes x.0 y.0 x.1 y.1 in
+    goes_same plan y.0 lane a b (subst (λ (m : Point). Goes plan m lane a) mid x.2) y.2
 
 pub below_or : (i n : ℕ) → i < n + 1 → (i < n) ⊎ (i ≡ n)
 below_or i n below = go (ltb i n) refl
@@ -41,9 +91,13 @@ rises_push (x ∷ es) e rises before = (
 abbrev pub Keeps : Plan → (ℕ → Point) → ℕ → List Edge → ℕ → Type 0
 Keeps plan point t es i = (pends (point i).state t ≡ true) × ((e : Edge) → Contains es e → e.from ≡ i → IsLost plan (point e.to) t)
 
+-- in each of the states the lanes that are tried are the lowest of those that stand alike
+abbrev pub AreLowest : Plan → List ℕ → (ℕ → Point) → ℕ → Type 0
+AreLowest plan kinds point states = (i : ℕ) → i < states → IsLowestChosen plan (point i) (is_tried kinds (point i))
+
 -- from the states from this one on, these are all edges
-abbrev pub Covers : Plan → (ℕ → Point) → ℕ → List Edge → ℕ → Type 0
-Covers plan point states es low = (i lane : ℕ) (q : Point) → low ≤ i → i < states → Goes plan (point i) lane q → (e : Edge) × Contains es e × (e.from ≡ i) × (point e.to ≡ q)
+abbrev pub Covers : Plan → List ℕ → (ℕ → Point) → ℕ → List Edge → ℕ → Type 0
+Covers plan kinds point states es low = (i lane : ℕ) (q : Point) → low ≤ i → i < states → TriedGoes plan kinds (point i) lane q → (e : Edge) × Contains es e × (e.from ≡ i) × (point e.to ≡ q)
 
 -- each of these edges is one, and leads on
 abbrev pub AreOnward : Plan → (ℕ → Point) → ℕ → List Edge → Type 0
@@ -61,9 +115,9 @@ length_passed [] lost = refl
 length_passed (e ∷ es) lost = length_kept e (passed es lost) ∙ length_passed es lost
 
 -- all its edges known, a state's mark tells whether the wait is lost there
-pub lost_forth : (plan : Plan) (point : ℕ → Point) (states t low : ℕ) (es : List Edge) (i : ℕ) → Covers plan point states es low → low ≤ i → i < states → Keeps plan point t es i → IsLost plan (point i) t
-lost_forth plan point states t low es i covers above below keeps =
-    loss_back plan (point i) t (keeps.0, λ lane q goes. let it = covers i lane q above below goes in subst (λ (p : Point). IsLost plan p t) it.3 (keeps.1 it.0 it.1 it.2))
+pub lost_forth : (plan : Plan) (kinds : List ℕ) (point : ℕ → Point) (states t low : ℕ) (es : List Edge) (i : ℕ) → AreLowest plan kinds point states → Covers plan kinds point states es low → low ≤ i → i < states → Keeps plan point t es i → IsLost plan (point i) t
+lost_forth plan kinds point states t low es i lowest covers above below keeps =
+    (losses_by_chosen plan (point i) t (is_tried kinds (point i)) (lowest i below)).1 (keeps.0, λ lane q tried goes. let it = covers i lane q above below (tried, goes) in subst (λ (p : Point). IsLost plan p t) it.3 (keeps.1 it.0 it.1 it.2))
 
 pub lost_back : (plan : Plan) (point : ℕ → Point) (states t : ℕ) (es : List Edge) (i : ℕ) → AreOnward plan point states es → IsLost plan (point i) t → Keeps plan point t es i
 lost_back plan point states t es i onward lost =
@@ -73,11 +127,12 @@ lost_back plan point states t es i onward lost =
     )
 
 -- one edge more
-cons_tells : (plan : Plan) (point : ℕ → Point) (states t low : ℕ) (e : Edge) (es : List Edge) (waits : List Bool)
-    → length waits ≡ states → Rises (e ∷ es) → AreOnward plan point states (e ∷ es) → Covers plan point states (e ∷ es) low → ((f : Edge) → Contains (e ∷ es) f → low ≤ f.from + 1)
-    → (AreOnward plan point states es → Covers plan point states es (e.from + 1) → ((f : Edge) → Contains es f → e.from + 1 ≤ f.from + 1) → (j : ℕ) → j < states → marked (passed es waits) j ≡ true ↔ Keeps plan point t es j)
+cons_tells : (plan : Plan) (kinds : List ℕ) (point : ℕ → Point) (states t low : ℕ) (e : Edge) (es : List Edge) (waits : List Bool)
+    → AreLowest plan kinds point states
+    → length waits ≡ states → Rises (e ∷ es) → AreOnward plan point states (e ∷ es) → Covers plan kinds point states (e ∷ es) low → ((f : Edge) → Contains (e ∷ es) f → low ≤ f.from + 1)
+    → (AreOnward plan point states es → Covers plan kinds point states es (e.from + 1) → ((f : Edge) → Contains es f → e.from + 1 ≤ f.from + 1) → (j : ℕ) → j < states → marked (passed es waits) j ≡ true ↔ Keeps plan point t es j)
     → (i : ℕ) → i < states → marked (passed (e ∷ es) waits) i ≡ true ↔ Keeps plan point t (e ∷ es) i
-cons_tells plan point states t low e es waits count rises onward covers from known i below = go (marked old e.to) refl (eqb i e.from) refl
+cons_tells plan kinds point states t low e es waits lowest count rises onward covers from known i below = go (marked old e.to) refl (eqb i e.from) refl
   where
     old : List Bool
     old = passed es waits
@@ -88,7 +143,7 @@ cons_tells plan point states t low e es waits count rises onward covers from kno
     here : (e.from < e.to) × (e.to < states) × (lane : ℕ) × Goes plan (point e.from) lane (point e.to)
     here = onward e (contains_first e es e refl)
 
-    rest : Covers plan point states es (e.from + 1)
+    rest : Covers plan kinds point states es (e.from + 1)
     rest j lane q above inside goes =
         let least = from e (contains_first e es e refl) in
         let it = covers j lane q (omega (arith, above, least)) inside goes in
@@ -102,7 +157,7 @@ cons_tells plan point states t low e es waits count rises onward covers from kno
     before = known later rest (λ f has. let up = rises.0 f has in omega (arith, up))
 
     onto : marked old e.to ≡ true → IsLost plan (point e.to) t
-    onto is = let up = here.0 in lost_forth plan point states t (e.from + 1) es e.to rest (omega (arith, up)) here.1 ((before e.to here.1).0 is)
+    onto is = let up = here.0 in lost_forth plan kinds point states t (e.from + 1) es e.to lowest rest (omega (arith, up)) here.1 ((before e.to here.1).0 is)
 
     from_lost : IsLost plan (point e.to) t → marked old e.to ≡ true
     from_lost lost = (before e.to here.1).1 (lost_back plan point states t es e.to later lost)
@@ -142,42 +197,43 @@ cons_tells plan point states t low e es waits count rises onward covers from kno
           λ keeps. same ∙ (before i below).1 (fewer keeps),
         )
 
-pub passed_tells : (plan : Plan) (point : ℕ → Point) (states t low : ℕ) (es : List Edge) (waits : List Bool)
+pub passed_tells : (plan : Plan) (kinds : List ℕ) (point : ℕ → Point) (states t low : ℕ) (es : List Edge) (waits : List Bool)
+    → AreLowest plan kinds point states
     → length waits ≡ states
     → ((i : ℕ) → i < states → marked waits i ≡ pends (point i).state t)
-    → Rises es → AreOnward plan point states es → Covers plan point states es low → ((e : Edge) → Contains es e → low ≤ e.from + 1)
+    → Rises es → AreOnward plan point states es → Covers plan kinds point states es low → ((e : Edge) → Contains es e → low ≤ e.from + 1)
     → (i : ℕ) → i < states → marked (passed es waits) i ≡ true ↔ Keeps plan point t es i
-passed_tells plan point states t low [] waits count told rises onward covers from i below = (
+passed_tells plan kinds point states t low [] waits lowest count told rises onward covers from i below = (
   λ e. (sym (told i below) ∙ e, λ f (k, inside, is). absurd (omega (arith, inside))),
   λ keeps. told i below ∙ keeps.0,
 )
-passed_tells plan point states t low (e ∷ es) waits count told rises onward covers from i below =
-    cons_tells plan point states t low e es waits count rises onward covers from (passed_tells plan point states t (e.from + 1) es waits count told rises.1) i below
+passed_tells plan kinds point states t low (e ∷ es) waits lowest count told rises onward covers from i below =
+    cons_tells plan kinds point states t low e es waits lowest count rises onward covers from (passed_tells plan kinds point states t (e.from + 1) es waits lowest count told rises.1) i below
 
 -- ---- edges from one point more
 
-pub leads_none : (plan : Plan) (p : Point) (index states : ℕ) (point : ℕ → Point) (pairs : List Edge) (tried : ℕ → Type 0) → ((lane : ℕ) (q : Point) → tried lane → Goes plan p lane q → ⊥) → Leads plan p index states point tried pairs pairs
-leads_none plan p index states point pairs tried never = record {
+pub leads_none : (plan : Plan) (kinds : List ℕ) (p : Point) (index states : ℕ) (point : ℕ → Point) (pairs : List Edge) (tried : ℕ → Type 0) → ((lane : ℕ) (q : Point) → tried lane → TriedGoes plan kinds p lane q → ⊥) → Leads plan kinds p index states point tried pairs pairs
+leads_none plan kinds p index states point pairs tried never = record {
   kept = λ e has. has;
   goes = λ e has. inl has;
   rises = λ rises before. rises;
   all = λ lane q is goes. absurd (never lane q is goes);
 }
 
-pub leads_on : (plan : Plan) (p next : Point) (index lane j states : ℕ) (points : ℕ → Point) (pairs : List Edge) → j < states → points j ≡ next → Goes plan p lane next → Leads plan p index states points (λ l. l ≡ lane) pairs (pairs ++ edge index j ∷ [])
-leads_on plan p next index lane j states points pairs there is goes = record {
+pub leads_on : (plan : Plan) (kinds : List ℕ) (p next : Point) (index lane j states : ℕ) (points : ℕ → Point) (pairs : List Edge) → j < states → points j ≡ next → Goes plan p lane next → Leads plan kinds p index states points (λ l. l ≡ lane) pairs (pairs ++ edge index j ∷ [])
+leads_on plan kinds p next index lane j states points pairs there is goes = record {
   kept = λ e has. Contains-append_left pairs (edge index j ∷ []) e has;
   goes = λ e has. pick e (Contains-push_cases pairs (edge index j) e has);
   rises = λ rises before. rises_push pairs (edge index j) rises before;
-  all = λ l q same other. (edge index j, Contains-push pairs (edge index j), refl, there, is ∙ goes_same plan p lane next q goes (subst (λ (k : ℕ). Goes plan p k q) same other));
+  all = λ l q same other. (edge index j, Contains-push pairs (edge index j), refl, there, is ∙ goes_same plan p lane next q goes (subst (λ (k : ℕ). Goes plan p k q) same other.1));
 }
   where
     pick : (e : Edge) → Contains pairs e ⊎ (edge index j ≡ e) → Contains pairs e ⊎ ((e.from ≡ index) × (e.to < states) × (l : ℕ) × Goes plan p l (points e.to))
     pick e (inl has) = inl has
     pick e (inr same) = inr (subst (λ (f : Edge). (f.from ≡ index) × (f.to < states) × (l : ℕ) × Goes plan p l (points f.to)) same (refl, there, lane, subst (Goes plan p lane) (sym is) goes))
 
-pub leads_then : (plan : Plan) (p : Point) (index mid states lanes : ℕ) (point points : ℕ → Point) (old halfway new : List Edge) → mid ≤ states → ((i : ℕ) → i < mid → points i ≡ point i) → Leads plan p index mid point (λ l. l < lanes) old halfway → Leads plan p index states points (λ l. l ≡ lanes) halfway new → Leads plan p index states points (λ l. l < lanes + 1) old new
-leads_then plan p index mid states lanes point points old halfway new longer same a b = record {
+pub leads_then : (plan : Plan) (kinds : List ℕ) (p : Point) (index mid states lanes : ℕ) (point points : ℕ → Point) (old halfway new : List Edge) → mid ≤ states → ((i : ℕ) → i < mid → points i ≡ point i) → Leads plan kinds p index mid point (λ l. l < lanes) old halfway → Leads plan kinds p index states points (λ l. l ≡ lanes) halfway new → Leads plan kinds p index states points (λ l. l < lanes + 1) old new
+leads_then plan kinds p index mid states lanes point points old halfway new longer same a b = record {
   kept = λ e has. b.kept e (a.kept e has);
   goes = λ e has. second e (b.goes e has);
   rises = λ rises before. b.rises (a.rises rises before) (λ e has. low e before (a.goes e has));
@@ -196,7 +252,7 @@ leads_then plan p index mid states lanes point points old halfway new longer sam
     low e before (inl has) = before e has
     low e before (inr it) = let at = it.0 in omega (arith, at)
 
-    all : (l : ℕ) (q : Point) → Goes plan p l q → (c : Bool) → ltb l lanes ≡ c → l < lanes + 1 → (e : Edge) × Contains new e × (e.from ≡ index) × (e.to < states) × (points e.to ≡ q)
+    all : (l : ℕ) (q : Point) → TriedGoes plan kinds p l q → (c : Bool) → ltb l lanes ≡ c → l < lanes + 1 → (e : Edge) × Contains new e × (e.from ≡ index) × (e.to < states) × (points e.to ≡ q)
     all l q goes true is below =
         let it = a.all l q (grind (arith, nat_tests, is)) goes in
         let inside = it.3 in

@@ -1,6 +1,11 @@
--- How states stand in slots.
-use Rattle.std.proofs.Common.{◌≡◌, ◌≢◌, ◌<◌, ◌≤◌, ℕ, zero, suc, ◌+◌, ◌-◌, ◌%◌, Bool, true, false, List, [], ◌∷◌, ◌++◌, length, refl, sym, ap, ◌∙◌, subst, arith, set, get_or, take, drop, replicate, inl, inr, ◌⊎◌, None}
-use Rattle.std.specs.Prelude.{nat_lt, if◌then◌else◌}
+-- How states stand in slots by their hashes, and hashes part by part.
+use Rattle.std.proofs.Common.{◌≡◌, ℕ, List, [], ◌∷◌, Option, Some, Bool, true, false, eqb, sym, ◌∙◌, Contains, suc, ◌+◌, ap, arith, None, ◌≢◌, ◌<◌, ◌≤◌, zero, ◌-◌, ◌%◌, ◌++◌, length, refl, subst, set, get_or, take, drop, replicate, inl, inr, ◌⊎◌}
+use Rattle.std.proofs.lemmas.Option.{none-some}
+use Rattle.std.specs.Option.{ForSome}
+use Rattle.std.specs.Prelude.{slice_get, if◌then◌else◌, nat_lt}
+use Rattle.nt_status.proofs.Lists.{contains_front, contains_later}
+use Rattle.nt_waits.specs.Waits.{next_after}
+use Rattle.nt_explore.specs.Hash.{folded, mixed_thread, mixed_queue}
 use Rattle.std.proofs.lemmas.Bool.Decides.{nat_tests}
 use Rattle.std.proofs.Math.Seq.{take-append_seam}
 use Rattle.std.proofs.lemmas.List.{length-set, length_push, get_or-set_same, get_or-set_other, get_or_push, get_or_append_left}
@@ -10,6 +15,47 @@ use Rattle.nt_explore.specs.Walk.{no_visit, hash_at, IsOther, IsFound}
 use Rattle.nt_explore.specs.Slots.{slot_from, slot_after, slot_at, NoneFree, StandsIn, PutsIn, used, AreInSlots, IsTable}
 use Rattle.nt_explore.proofs.Losing.{below_or}
 use Rattle.nt_explore.proofs.Walks.{behind_more}
+
+-- either the first is looked for, and who stands next is the first of the rest, or it is as in the rest
+next_or : (x : ℕ) (q : List ℕ) (u : ℕ) (b : Bool) (later : Option ℕ) → (later ≡ Some u → Contains q u) → (if b then slice_get q 0 else later) ≡ Some u → Contains (x ∷ q) u
+next_or x q u true later rest is = contains_later x q u (contains_front q u is)
+next_or x q u false later rest is = contains_later x q u (rest is)
+
+after_stands : (q : List ℕ) (t u : ℕ) → next_after t q ≡ Some u → Contains q u
+after_stands [] t u is = absurd (none-some u is)
+after_stands (x ∷ q) t u is = next_or x q u (eqb x t) (next_after t q) (after_stands q t u) is
+
+pub first_stands : (q : List ℕ) (first : Option ℕ) → first ≡ slice_get q 0 → ForSome first (λ t. Contains q t)
+first_stands q first is = λ t there. contains_front q t (sym is ∙ there)
+
+pub next_stands : (q : List ℕ) (t : ℕ) (next : Option ℕ) → next ≡ next_after t q → ForSome next (λ u. Contains q u)
+next_stands q t next is = λ u there. after_stands q t u (sym is ∙ there)
+
+-- the next position
+pub folded_more : (step : ℕ → ℕ → ℕ) (hash n so_far next : ℕ) → so_far ≡ folded step hash n → next ≡ step so_far n → next ≡ folded step hash (n + 1)
+folded_more step hash n so_far next is one =
+    let more : suc n ≡ n + 1 = omega arith in
+    one ∙ (ap (λ (h : ℕ). step h n) is ∙ ap (λ (k : ℕ). folded step hash k) more)
+
+-- the last position
+pub folded_all : (step : ℕ → ℕ → ℕ) (hash n count so_far : ℕ) → so_far ≡ folded step hash n → n ≡ count → so_far ≡ folded step hash count
+folded_all step hash n count so_far is all = is ∙ ap (λ (k : ℕ). folded step hash k) all
+
+-- one thread more of a queue
+pub queue_on : (n m : ℕ) (queue : List ℕ) (hash t : ℕ) (next : Option ℕ) → n ≡ m + 1 → next ≡ Some t → mixed_queue n queue hash next ≡ mixed_queue m queue (mixed_thread hash (Some t)) (next_after t queue)
+queue_on n m queue hash t next more is =
+    let one : n ≡ suc m = omega (arith, more) in
+    ap (λ (k : ℕ). mixed_queue k queue hash next) one ∙ ap (λ (o : Option ℕ). mixed_queue (suc m) queue hash o) is
+
+-- its end
+pub queue_end : (n m : ℕ) (queue : List ℕ) (hash : ℕ) (next : Option ℕ) → n ≡ m + 1 → next ≡ None → mixed_queue n queue hash next ≡ mixed_thread hash next
+queue_end n m queue hash next more is =
+    let one : n ≡ suc m = omega (arith, more) in
+    ap (λ (k : ℕ). mixed_queue k queue hash next) one ∙ (ap (λ (o : Option ℕ). mixed_queue (suc m) queue hash o) is ∙ sym (ap (λ (o : Option ℕ). mixed_thread hash o) is))
+
+-- no thread more is looked at
+pub queue_over : (n : ℕ) (queue : List ℕ) (hash : ℕ) (next : Option ℕ) → n ≡ 0 → mixed_queue n queue hash next ≡ hash
+queue_over n queue hash next none = ap (λ (k : ℕ). mixed_queue k queue hash next) none
 
 -- ---- how many are used
 

@@ -6,13 +6,13 @@ use Rattle.std.proofs.lemmas.List.{length-set, length_push, get_or_push, get_or_
 use Rattle.nt_look.specs.Orders.{Plan, Point, Goes, steps, place}
 use Rattle.nt_look.proofs.Searching.{steps_counted}
 use Rattle.nt_explore.specs.declared.met.Visit.{Visit}
+use Rattle.nt_explore.specs.Lanes.{TriedGoes}
 use Rattle.nt_explore.specs.Walk.{no_visit, parent_of, lane_of, hash_at, AreBehind, IsWalk, HasPoint, IsFound, Meets, TriesLane, Tries, CanGoTo, edge, Went, LeadsTo}
 use Rattle.nt_calls.specs.State.{State}
 use Rattle.nt_explore.specs.Search.{beginning, CanGo, IsOneIf, SumsTo}
 use Rattle.nt_explore.specs.Hash.{hash_of}
 use Rattle.nt_explore.specs.declared.loss.Edge.{Edge}
-use Rattle.nt_explore.proofs.Losing.{below_or, leads_on, leads_none, leads_then}
-use Rattle.nt_explore.proofs.Unique.{goes_same}
+use Rattle.nt_explore.proofs.Losing.{below_or, leads_on, leads_none, leads_then, goes_same}
 
 -- ---- one point more
 
@@ -129,56 +129,56 @@ meets_old plan start visits hash p j point found walk = record {
 pub sums_on : (is : ℕ → ℕ → Type 0) (n before last sum : ℕ) → SumsTo is n before → is n last → sum ≡ before + last → SumsTo is (n + 1) sum
 sums_on is n before last sum old here total = let more : suc n ≡ n + 1 = omega arith in subst (λ (k : ℕ). SumsTo is k sum) more (before, last, old, here, total)
 
-pub lane_went : (plan : Plan) (start : Point) (old new : List Visit) (pairs : List Edge) (p next : Point) (index lane j : ℕ) (point : ℕ → Point) → length p.at ≡ length plan → Goes plan p lane next → Meets plan start old new next j point → TriesLane plan start old new pairs (pairs ++ edge index j ∷ []) p index lane point
-lane_went plan start old new pairs p next index lane j point wide goes meets = record {
+pub lane_went : (plan : Plan) (kinds : List ℕ) (start : Point) (old new : List Visit) (pairs : List Edge) (p next : Point) (index lane j : ℕ) (point : ℕ → Point) → length p.at ≡ length plan → TriedGoes plan kinds p lane next → Meets plan start old new next j point → TriesLane plan kinds start old new pairs (pairs ++ edge index j ∷ []) p index lane point
+lane_went plan kinds start old new pairs p next index lane j point wide goes meets = record {
   points = meets.points;
   grows = meets.grows;
-  deep = λ i past below. ap (λ (z : Point). steps z.at) (meets.deep i past below) ∙ deeper plan p next lane wide goes;
-  came = λ i past below. (lane, subst (λ (z : Point). Goes plan p lane z) (sym (meets.deep i past below)) goes);
-  tried = λ q other. (j, meets.there, meets.is ∙ goes_same plan p lane next q goes other);
-  leads = leads_on plan p next index lane j (length new) meets.points pairs meets.there meets.is goes;
+  deep = λ i past below. ap (λ (z : Point). steps z.at) (meets.deep i past below) ∙ deeper plan p next lane wide goes.1;
+  came = λ i past below. (lane, subst (λ (z : Point). TriedGoes plan kinds p lane z) (sym (meets.deep i past below)) goes);
+  tried = λ q other. (j, meets.there, meets.is ∙ goes_same plan p lane next q goes.1 other.1);
+  leads = leads_on plan kinds p next index lane j (length new) meets.points pairs meets.there meets.is goes.1;
   count = (1, inl ((next, goes), refl), length_push pairs (edge index j));
 }
 
-pub lane_stays : (plan : Plan) (start : Point) (visits : List Visit) (pairs : List Edge) (p : Point) (index lane : ℕ) (point : ℕ → Point) → ((q : Point) → Goes plan p lane q → ⊥) → IsWalk plan start visits point → TriesLane plan start visits visits pairs pairs p index lane point
-lane_stays plan start visits pairs p index lane point never walk = record {
+pub lane_stays : (plan : Plan) (kinds : List ℕ) (start : Point) (visits : List Visit) (pairs : List Edge) (p : Point) (index lane : ℕ) (point : ℕ → Point) → ((q : Point) → TriedGoes plan kinds p lane q → ⊥) → IsWalk plan start visits point → TriesLane plan kinds start visits visits pairs pairs p index lane point
+lane_stays plan kinds start visits pairs p index lane point never walk = record {
   points = point;
   grows = record { walk = walk; longer = omega arith; same = λ i below. refl };
   deep = λ i past below. absurd (omega (arith, past, below));
   came = λ i past below. absurd (omega (arith, past, below));
   tried = λ q goes. absurd (never q goes);
-  leads = leads_none plan p index (length visits) point pairs (λ l. l ≡ lane) (λ l q is goes. never q (subst (λ (k : ℕ). Goes plan p k q) is goes));
+  leads = leads_none plan kinds p index (length visits) point pairs (λ l. l ≡ lane) (λ l q is goes. never q (subst (λ (k : ℕ). TriedGoes plan kinds p k q) is goes));
   count = (0, inr (λ can. never can.0 can.1, refl), omega arith);
 }
 
-pub tries_none : (plan : Plan) (start : Point) (visits : List Visit) (pairs : List Edge) (p : Point) (index : ℕ) (point : ℕ → Point) → IsWalk plan start visits point → Tries plan start visits visits pairs pairs p index 0 point
-tries_none plan start visits pairs p index point walk = record {
+pub tries_none : (plan : Plan) (kinds : List ℕ) (start : Point) (visits : List Visit) (pairs : List Edge) (p : Point) (index : ℕ) (point : ℕ → Point) → IsWalk plan start visits point → Tries plan kinds start visits visits pairs pairs p index 0 point
+tries_none plan kinds start visits pairs p index point walk = record {
   points = point;
   grows = record { walk = walk; longer = omega arith; same = λ i below. refl };
   deep = λ i past below. absurd (omega (arith, past, below));
   came = λ i past below. absurd (omega (arith, past, below));
   tried = λ lane q below. absurd (omega (arith, below));
-  leads = leads_none plan p index (length visits) point pairs (λ l. l < 0) (λ l q below goes. absurd (omega (arith, below)));
+  leads = leads_none plan kinds p index (length visits) point pairs (λ l. l < 0) (λ l q below goes. absurd (omega (arith, below)));
   count = (0, refl, omega arith);
 }
 
-pub tries_more : (plan : Plan) (start : Point) (old mid new : List Visit) (first halfway last : List Edge) (p : Point) (lanes index : ℕ) (point : ℕ → Point) → index < length old → point index ≡ p → (tries : Tries plan start old mid first halfway p index lanes point) → ((points : ℕ → Point) → IsWalk plan start mid points → points index ≡ p → TriesLane plan start mid new halfway last p index lanes points) → Tries plan start old new first last p index (lanes + 1) point
-tries_more plan start old mid new first halfway last p lanes index point within is tries lane = record {
+pub tries_more : (plan : Plan) (kinds : List ℕ) (start : Point) (old mid new : List Visit) (first halfway last : List Edge) (p : Point) (lanes index : ℕ) (point : ℕ → Point) → index < length old → point index ≡ p → (tries : Tries plan kinds start old mid first halfway p index lanes point) → ((points : ℕ → Point) → IsWalk plan start mid points → points index ≡ p → TriesLane plan kinds start mid new halfway last p index lanes points) → Tries plan kinds start old new first last p index (lanes + 1) point
+tries_more plan kinds start old mid new first halfway last p lanes index point within is tries lane = record {
   points = more.points;
   grows = record { walk = more.grows.walk; longer = omega (arith, longer, second); same = λ i below. more.grows.same i (omega (arith, below, longer)) ∙ tries.grows.same i below };
   deep = λ i past below. deep i past below (ltb i (length mid)) refl;
   came = λ i past below. came i past below (ltb i (length mid)) refl;
   tried = λ l q below goes. tried l q goes (below_or l lanes below);
-  leads = leads_then plan p index (length mid) (length new) lanes tries.points more.points first halfway last second more.grows.same tries.leads more.leads;
+  leads = leads_then plan kinds p index (length mid) (length new) lanes tries.points more.points first halfway last second more.grows.same tries.leads more.leads;
   count =
       let before = tries.count in
       let one = more.count in
       let start = before.2 in
       let end = one.2 in
-      (before.0 + one.0, sums_on (λ l. IsOneIf (CanGo plan p l)) lanes before.0 one.0 (before.0 + one.0) before.1 one.1 refl, omega (arith, start, end));
+      (before.0 + one.0, sums_on (λ l. IsOneIf (CanGo plan kinds p l)) lanes before.0 one.0 (before.0 + one.0) before.1 one.1 refl, omega (arith, start, end));
 }
   where
-    more : TriesLane plan start mid new halfway last p index lanes tries.points
+    more : TriesLane plan kinds start mid new halfway last p index lanes tries.points
     more = lane tries.points tries.grows.walk (tries.grows.same index within ∙ is)
 
     longer : length old ≤ length mid
@@ -191,16 +191,16 @@ tries_more plan start old mid new first halfway last p lanes index point within 
     deep i past below true e = let inside : i < length mid = grind (arith, nat_tests, e) in ap (λ (z : Point). steps z.at) (more.grows.same i inside) ∙ tries.deep i past inside
     deep i past below false e = more.deep i (grind (arith, nat_tests, e)) below
 
-    came : (i : ℕ) → length old ≤ i → i < length new → (b : Bool) → ltb i (length mid) ≡ b → CanGoTo plan p (more.points i)
-    came i past below true e = let inside : i < length mid = grind (arith, nat_tests, e) in subst (λ (z : Point). CanGoTo plan p z) (sym (more.grows.same i inside)) (tries.came i past inside)
+    came : (i : ℕ) → length old ≤ i → i < length new → (b : Bool) → ltb i (length mid) ≡ b → CanGoTo plan kinds p (more.points i)
+    came i past below true e = let inside : i < length mid = grind (arith, nat_tests, e) in subst (λ (z : Point). CanGoTo plan kinds p z) (sym (more.grows.same i inside)) (tries.came i past inside)
     came i past below false e = more.came i (grind (arith, nat_tests, e)) below
 
-    tried : (l : ℕ) (q : Point) → Goes plan p l q → (l < lanes) ⊎ (l ≡ lanes) → HasPoint new more.points q
+    tried : (l : ℕ) (q : Point) → TriedGoes plan kinds p l q → (l < lanes) ⊎ (l ≡ lanes) → HasPoint new more.points q
     tried l q goes (inl before) =
         let has = tries.tried l q before goes in
         let inside = has.1 in
         (has.0, omega (arith, inside, second), more.grows.same has.0 has.1 ∙ has.2)
-    tried l q goes (inr last) = more.tried q (subst (λ (k : ℕ). Goes plan p k q) last goes)
+    tried l q goes (inr last) = more.tried q (subst (λ (k : ℕ). TriedGoes plan kinds p k q) last goes)
 
 -- ---- the start alone
 
@@ -234,14 +234,14 @@ never_went plan p at next lane went still is so q goes =
     let never : Went plan at lane false next = subst (λ (b : Bool). Went plan at lane b next) still so in
     never.1 q (subst (λ (z : Point). Goes plan z lane q) (sym is) goes)
 
-pub lane_never : (plan : Plan) (start : Point) (visits : List Visit) (pairs : List Edge) (p : Point) (index lane : ℕ) (next : Option Point) → next ≡ None → LeadsTo plan p lane next → (point : ℕ → Point) → IsWalk plan start visits point → TriesLane plan start visits visits pairs pairs p index lane point
-lane_never plan start visits pairs p index lane next none leads point walk =
-    let never : LeadsTo plan p lane None = subst (λ (o : Option Point). LeadsTo plan p lane o) none leads in
-    lane_stays plan start visits pairs p index lane point never walk
+pub lane_never : (plan : Plan) (kinds : List ℕ) (start : Point) (visits : List Visit) (pairs : List Edge) (p : Point) (index lane : ℕ) (next : Option Point) → next ≡ None → LeadsTo plan kinds p lane next → (point : ℕ → Point) → IsWalk plan start visits point → TriesLane plan kinds start visits visits pairs pairs p index lane point
+lane_never plan kinds start visits pairs p index lane next none leads point walk =
+    let never : LeadsTo plan kinds p lane None = subst (λ (o : Option Point). LeadsTo plan kinds p lane o) none leads in
+    lane_stays plan kinds start visits pairs p index lane point never walk
 
-pub lane_leads : (plan : Plan) (p next : Point) (lane : ℕ) (found : Option Point) → found ≡ Some next → LeadsTo plan p lane found → Goes plan p lane next
-lane_leads plan p next lane found is leads = subst (λ (o : Option Point). LeadsTo plan p lane o) is leads
+pub lane_leads : (plan : Plan) (kinds : List ℕ) (p next : Point) (lane : ℕ) (found : Option Point) → found ≡ Some next → LeadsTo plan kinds p lane found → TriedGoes plan kinds p lane next
+lane_leads plan kinds p next lane found is leads = subst (λ (o : Option Point). LeadsTo plan kinds p lane o) is leads
 
-pub lane_met : (plan : Plan) (start : Point) (old new : List Visit) (pairs more : List Edge) (p next : Point) (lane index j : ℕ) → length p.at ≡ length plan → more ≡ pairs ++ edge index j ∷ [] → ((point : ℕ → Point) → IsWalk plan start old point → Goes plan (point index) lane next → Meets plan start old new next j point) → (point : ℕ → Point) → IsWalk plan start old point → point index ≡ p → Goes plan p lane next → TriesLane plan start old new pairs more p index lane point
-lane_met plan start old new pairs more p next lane index j wide added meets point walk here goes =
-    subst (λ (es : List Edge). TriesLane plan start old new pairs es p index lane point) (sym added) (lane_went plan start old new pairs p next index lane j point wide goes (meets point walk (subst (λ (z : Point). Goes plan z lane next) (sym here) goes)))
+pub lane_met : (plan : Plan) (kinds : List ℕ) (start : Point) (old new : List Visit) (pairs more : List Edge) (p next : Point) (lane index j : ℕ) → length p.at ≡ length plan → more ≡ pairs ++ edge index j ∷ [] → ((point : ℕ → Point) → IsWalk plan start old point → Goes plan (point index) lane next → Meets plan start old new next j point) → (point : ℕ → Point) → IsWalk plan start old point → point index ≡ p → TriedGoes plan kinds p lane next → TriesLane plan kinds start old new pairs more p index lane point
+lane_met plan kinds start old new pairs more p next lane index j wide added meets point walk here goes =
+    subst (λ (es : List Edge). TriesLane plan kinds start old new pairs es p index lane point) (sym added) (lane_went plan kinds start old new pairs p next index lane j point wide goes (meets point walk (subst (λ (z : Point). Goes plan z lane next) (sym here) goes.1)))

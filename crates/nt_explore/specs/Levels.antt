@@ -4,6 +4,8 @@ use Rattle.nt_calls.specs.State.{State, pends}
 use Rattle.nt_machine.specs.Dispatcher.{Dispatcher}
 use Rattle.nt_look.specs.Hangs.{marked}
 use Rattle.nt_look.specs.Orders.{Plan, Point, Goes, Hangs, IsLost, steps}
+use Rattle.nt_apart.specs.Fewer.{IsLowestChosen}
+use Rattle.nt_explore.specs.Lanes.{TriedGoes, is_tried}
 use Rattle.nt_explore.specs.declared.loss.Edge.{Edge}
 use Rattle.nt_explore.specs.declared.loss.Edges.{Edges}
 use Rattle.nt_explore.specs.declared.met.Visit.{Visit}
@@ -18,24 +20,25 @@ abbrev pub IsFirst : Plan → (ℕ → Point) → ℕ → Option ℕ → Type 0
 IsFirst plan point looked None = (i : ℕ) → i < looked → Hangs plan (point i) → ⊥
 IsFirst plan point looked (Some h) = (h < looked) × Hangs plan (point h) × ((i : ℕ) → i < h → Hangs plan (point i) → ⊥)
 
--- the points in the order of their depths: with each that was looked at all to which a lane leads, and the first that hangs
-pub record AreLooked (plan : Plan) (start : Point) (visits : List Visit) (looked : ℕ) (first : Option ℕ) (point : ℕ → Point) : Type 0 where
+-- the points in the order of their depths: with each that was looked at all to which a lane that is tried leads, and the first that hangs
+pub record AreLooked (plan : Plan) (kinds : List ℕ) (start : Point) (visits : List Visit) (looked : ℕ) (first : Option ℕ) (point : ℕ → Point) : Type 0 where
   pub walk : IsWalk plan start visits point
   pub within : looked ≤ length visits
   pub rising : (i j : ℕ) → i ≤ j → j < length visits → steps (point i).at ≤ steps (point j).at
   pub near : (j : ℕ) → looked < length visits → j < length visits → steps (point j).at ≤ steps (point looked).at + 1
-  pub closed : (i lane : ℕ) (q : Point) → i < looked → Goes plan (point i) lane q → HasPoint visits point q
+  pub closed : (i lane : ℕ) (q : Point) → i < looked → TriedGoes plan kinds (point i) lane q → HasPoint visits point q
+  pub lowest : (i : ℕ) → i < looked → IsLowestChosen plan (point i) (is_tried kinds (point i))
   pub told : IsFirst plan point looked first
 
 -- a lane leads from the one, which was looked at, to the other
 abbrev pub IsEdge : Plan → (ℕ → Point) → ℕ → ℕ → Edge → Type 0
 IsEdge plan point looked states e = (e.from < looked) × (e.to < states) × (lane : ℕ) × Goes plan (point e.from) lane (point e.to)
 
--- of each point that was looked at, where its lanes lead, and who waits there
-pub record AreEdges (plan : Plan) (threads : ℕ) (pairs : List Edge) (waits : List Bool) (looked states : ℕ) (point : ℕ → Point) : Type 0 where
+-- of each point that was looked at, where the lanes lead that are tried, and who waits there
+pub record AreEdges (plan : Plan) (kinds : List ℕ) (threads : ℕ) (pairs : List Edge) (waits : List Bool) (looked states : ℕ) (point : ℕ → Point) : Type 0 where
   pub goes : (e : Edge) → Contains pairs e → IsEdge plan point looked states e
   pub rises : Rises pairs
-  pub all : (i lane : ℕ) (q : Point) → i < looked → Goes plan (point i) lane q → (e : Edge) × Contains pairs e × (e.from ≡ i) × (point e.to ≡ q)
+  pub all : (i lane : ℕ) (q : Point) → i < looked → TriedGoes plan kinds (point i) lane q → (e : Edge) × Contains pairs e × (e.from ≡ i) × (point e.to ≡ q)
   pub first : (point 0).state.threads ≡ threads
   pub count : length waits ≡ threads * looked
   pub told : (i t : ℕ) → i < looked → t < threads → marked waits (i * threads + t) ≡ pends (point i).state t
@@ -47,45 +50,45 @@ IsLostThere plan point None = Unit {0}
 IsLostThere plan point (Some h) = (t : ℕ) × IsLost plan (point h) t
 
 -- so far the search is
-abbrev pub IsSearch : Plan → Point → List Visit → Edges → ℕ → Option ℕ → Type 0
-IsSearch plan start visits edges looked first =
+abbrev pub IsSearch : Plan → List ℕ → Point → List Visit → Edges → ℕ → Option ℕ → Type 0
+IsSearch plan kinds start visits edges looked first =
     (point : ℕ → Point)
-    × AreLooked plan start visits looked first point
-    × AreEdges plan edges.threads edges.pairs.items edges.waits.items looked (length visits) point
+    × AreLooked plan kinds start visits looked first point
+    × AreEdges plan kinds edges.threads edges.pairs.items edges.waits.items looked (length visits) point
     × IsLostThere plan point first
 
 -- which points each look met, and the counts of them
-pub record AreMet (plan : Plan) (start : Point) (looked states steps hangs : ℕ) (point : ℕ → Point) (met : ℕ → ℕ) : Type 0 where
-  pub turns : AreMetInTurn plan start point met looked
-  pub counts : AreCounts plan point looked (met looked) states steps hangs
+pub record AreMet (plan : Plan) (kinds : List ℕ) (start : Point) (looked states steps hangs : ℕ) (point : ℕ → Point) (met : ℕ → ℕ) : Type 0 where
+  pub turns : AreMetInTurn plan kinds start point met looked
+  pub counts : AreCounts plan kinds point looked (met looked) states steps hangs
   pub low : (i : ℕ) → i ≤ looked → met i ≤ states
 
 -- so far the search is, with its counts
-abbrev pub IsCounted : Plan → Point → List Visit → Edges → ℕ → Counts → (ℕ → ℕ) → Type 0
-IsCounted plan start visits edges looked counts met =
-    (search : IsSearch plan start visits edges looked counts.first)
-    × AreMet plan start looked (length visits) (length edges.pairs.items) counts.hangs search.0 met
+abbrev pub IsCounted : Plan → List ℕ → Point → List Visit → Edges → ℕ → Counts → (ℕ → ℕ) → Type 0
+IsCounted plan kinds start visits edges looked counts met =
+    (search : IsSearch plan kinds start visits edges looked counts.first)
+    × AreMet plan kinds start looked (length visits) (length edges.pairs.items) counts.hangs search.0 met
 
 -- the same up to the looks so far, and after one more this many states are met
 abbrev pub then_met : (ℕ → ℕ) → ℕ → ℕ → ℕ → ℕ
 then_met met looked states i = if nat_lt looked i then states else met i
 
 -- one state more was looked at, of a search from this dispatcher
-abbrev pub LooksOn : Plan → Dispatcher → (old new : List Visit) → (edges more : Edges) → ℕ → (counts counts' : Counts) → Type 0
-LooksOn plan core old new edges more looked counts counts' =
-    (met : ℕ → ℕ) → IsCounted plan (start_of plan core) old edges looked counts met
-    → IsCounted plan (start_of plan core) new more (looked + 1) counts' (then_met met looked (length new))
+abbrev pub LooksOn : Plan → List ℕ → Dispatcher → (old new : List Visit) → (edges more : Edges) → ℕ → (counts counts' : Counts) → Type 0
+LooksOn plan kinds core old new edges more looked counts counts' =
+    (met : ℕ → ℕ) → IsCounted plan kinds (start_of plan core) old edges looked counts met
+    → IsCounted plan kinds (start_of plan core) new more (looked + 1) counts' (then_met met looked (length new))
 
 -- it is so of every search that came so far
 abbrev pub OfSearch : List Visit → Edges → ℕ → Option ℕ → (Plan → Point → Type 0) → Type 0
-OfSearch visits edges looked first so = (plan : Plan) (s : State) → IsSearch plan (beginning plan s) visits edges looked first → so plan (beginning plan s)
+OfSearch visits edges looked first so = (plan : Plan) (kinds : List ℕ) (s : State) → IsSearch plan kinds (beginning plan s) visits edges looked first → so plan (beginning plan s)
 
 -- it is so of the points of every search that looked at all of so many states
 abbrev pub OfLooked : ℕ → Edges → (Plan → (ℕ → Point) → Type 0) → Type 0
 OfLooked states edges so =
-    (plan : Plan) (start : Point) (visits : List Visit) (first : Option ℕ) (point : ℕ → Point)
-    → length visits ≡ states → AreLooked plan start visits states first point
-    → AreEdges plan edges.threads edges.pairs.items edges.waits.items states states point → so plan point
+    (plan : Plan) (kinds : List ℕ) (start : Point) (visits : List Visit) (first : Option ℕ) (point : ℕ → Point)
+    → length visits ≡ states → AreLooked plan kinds start visits states first point
+    → AreEdges plan kinds edges.threads edges.pairs.items edges.waits.items states states point → so plan point
 
 -- the thread's wait is lost at this point, and at none before it
 abbrev pub IsFirstLost : Plan → (ℕ → Point) → ℕ → ℕ → Option ℕ → Type 0

@@ -3,7 +3,9 @@ use Rattle.std.specs.Prelude.{◌≡◌, ◌≢◌, ◌<◌, ◌≤◌, ◌⊎�
 use Rattle.nt_calls.specs.State.{State}
 use Rattle.nt_machine.specs.Dispatcher.{Dispatcher, state}
 use Rattle.nt_look.specs.Orders as orders
-use Rattle.nt_look.specs.Orders.{Calls, Passes, Plan, Point, Goes, Hangs, Order, NoneHangs, NoneHangsWithin, IsShortestHang, IsShortestLoss}
+use Rattle.nt_look.specs.Orders.{Calls, Passes, Plan, Point, Hangs, Order, NoneHangs, NoneHangsWithin, IsShortestHang, IsShortestLoss}
+use Rattle.nt_apart.specs.Fewer.{IsLowestChosen}
+use Rattle.nt_explore.specs.Lanes.{AreKinds, TriedGoes, is_tried}
 use Rattle.nt_explore.specs.declared.plan.Ask.{Ask}
 use Rattle.nt_explore.specs.declared.plan.Ask.TheVariants.{Call, Tick}
 use Rattle.nt_explore.specs.declared.explored.Explored.{Explored}
@@ -47,14 +49,15 @@ TellsVerdict plan start (verdict.Met level) = NoneHangsWithin plan start level
 abbrev pub AreDistinct : (ℕ → Point) → ℕ → Type 0
 AreDistinct point n = (i j : ℕ) → i < j → j < n → point i ≢ point j
 
--- the points are looked at in turn, the start first, and a look meets each point to which a lane leads from there, and no other:
--- after i looks the first `met i` points are met, each once
-pub record AreMetInTurn (plan : Plan) (start : Point) (point : ℕ → Point) (met : ℕ → ℕ) (looked : ℕ) : Type 0 where
+-- the points are looked at in turn, the start first, and a look meets each point to which a lane that is tried leads from there, and no other:
+-- after i looks the first `met i` points are met, each once. A lane that is not tried stands alike with a lower one
+pub record AreMetInTurn (plan : Plan) (kinds : List ℕ) (start : Point) (point : ℕ → Point) (met : ℕ → ℕ) (looked : ℕ) : Type 0 where
   pub first : point 0 ≡ start
   pub one : met 0 ≡ 1
   pub more : (i : ℕ) → i < looked → met i ≤ met (i + 1)
-  pub leads : (i lane : ℕ) (q : Point) → i < looked → Goes plan (point i) lane q → (j : ℕ) × (j < met (i + 1)) × (point j ≡ q)
-  pub came : (i j : ℕ) → i < looked → met i ≤ j → j < met (i + 1) → (lane : ℕ) × Goes plan (point i) lane (point j)
+  pub leads : (i lane : ℕ) (q : Point) → i < looked → TriedGoes plan kinds (point i) lane q → (j : ℕ) × (j < met (i + 1)) × (point j ≡ q)
+  pub lowest : (i : ℕ) → i < looked → IsLowestChosen plan (point i) (is_tried kinds (point i))
+  pub came : (i j : ℕ) → i < looked → met i ≤ j → j < met (i + 1) → (lane : ℕ) × TriedGoes plan kinds (point i) lane (point j)
   pub once : AreDistinct point (met looked)
 
 -- the search ends as soon as each point that was met was looked at, or more than `most` were met; it always looks at the start
@@ -66,8 +69,10 @@ pub record EndsAfter (most : ℕ) (met : ℕ → ℕ) (looked : ℕ) : Type 0 wh
 
 -- a search on its way: it looked at this many points, each met before, and went on only while no more than `most` were met
 pub record IsUnderWay (plan : Plan) (start : Point) (most : ℕ) (met : ℕ → ℕ) (looked : ℕ) : Type 0 where
+  pub kinds : List ℕ
+  pub alike : AreKinds plan start.state.threads kinds
   pub point : ℕ → Point
-  pub turns : AreMetInTurn plan start point met looked
+  pub turns : AreMetInTurn plan kinds start point met looked
   pub left : (i : ℕ) → i < looked → i < met i
   pub few : (i : ℕ) → 0 < i → i < looked → met i ≤ most
 
@@ -86,14 +91,14 @@ SumsTo is (suc n) sum = (before : ℕ) × (last : ℕ) × SumsTo is n before × 
 abbrev pub CountsTo : (ℕ → Type 0) → ℕ → ℕ → Type 0
 CountsTo so = SumsTo (λ i. IsOneIf (so i))
 
--- the lane leads somewhere
-abbrev pub CanGo : Plan → Point → ℕ → Type 0
-CanGo plan p lane = (q : Point) × Goes plan p lane q
+-- the lane is tried, and leads somewhere
+abbrev pub CanGo : Plan → List ℕ → Point → ℕ → Type 0
+CanGo plan kinds p lane = (q : Point) × TriedGoes plan kinds p lane q
 
--- how many points were met; and of those that were looked at, how many steps lead from them, and how many hang
-pub record AreCounts (plan : Plan) (point : ℕ → Point) (looked met states steps hangs : ℕ) : Type 0 where
+-- how many points were met; and of those that were looked at, how many steps of lanes that are tried lead from them, and how many hang
+pub record AreCounts (plan : Plan) (kinds : List ℕ) (point : ℕ → Point) (looked met states steps hangs : ℕ) : Type 0 where
   pub of_states : states ≡ met
-  pub of_steps : SumsTo (λ i. CountsTo (CanGo plan (point i)) (length plan)) looked steps
+  pub of_steps : SumsTo (λ i. CountsTo (CanGo plan kinds (point i)) (length plan)) looked steps
   pub of_hangs : CountsTo (λ i. Hangs plan (point i)) looked hangs
 
 -- ---- what is reported
@@ -113,10 +118,12 @@ TellsBound plan start next most looked states hangs (verdict.Hangs lanes loss) =
 
 -- the report of a search that looked at this many points
 pub record TellsSearch (plan : Plan) (start : Point) (most : ℕ) (met : ℕ → ℕ) (looked : ℕ) (told : Explored) : Type 0 where
+  pub kinds : List ℕ
+  pub alike : AreKinds plan start.state.threads kinds
   pub point : ℕ → Point
-  pub turns : AreMetInTurn plan start point met looked
+  pub turns : AreMetInTurn plan kinds start point met looked
   pub ends : EndsAfter most met looked
-  pub counts : AreCounts plan point looked (met looked) told.states told.steps told.hangs
+  pub counts : AreCounts plan kinds point looked (met looked) told.states told.steps told.hangs
   pub bound : TellsBound plan start (point looked) most looked told.states told.hangs told.verdict
 
 -- after each look the watcher learns how many points were looked at, and how many met

@@ -1,14 +1,20 @@
--- How the states that a search met lie in its table. No public clause cites this module.
-use Rattle.std.specs.Prelude.{Contains, ◌⊎◌, true, false, Option, None, Some, ◌≡◌, ◌≢◌, ◌<◌, ◌≤◌, ◌+◌, ℕ, Bool, List, [], ◌∷◌, length, slice_index_or}
+-- How a plan lies in its lists, and the states that a search met in its table. No public clause cites this module.
+use Rattle.std.specs.Prelude.{Vec, map, Contains, ◌⊎◌, true, false, Option, None, Some, ◌≡◌, ◌≢◌, ◌<◌, ◌≤◌, ◌+◌, ℕ, Bool, List, [], ◌∷◌, length, slice_index_or}
+use Rattle.std.specs.declared.alloc.Global.{Global}
 use Rattle.nt_calls.specs.State.{State, pends}
 use Rattle.nt_machine.specs.Dispatcher.{Dispatcher, state}
 use Rattle.nt_look.specs.Hangs.{marked}
 use Rattle.nt_look.specs.Orders.{Plan, Point, Goes, steps}
-use Rattle.nt_explore.specs.Search.{AreDistinct, CanGo, CountsTo, IsOneIf}
+use Rattle.nt_explore.specs.Search.{asked, AreDistinct, CanGo, CountsTo, IsOneIf}
+use Rattle.nt_explore.specs.Lanes.{TriedGoes}
 use Rattle.nt_explore.specs.Hash.{hash_of}
 use Rattle.nt_explore.specs.declared.loss.Edge.{Edge}
 use Rattle.nt_explore.specs.declared.met.Visit.{Visit}
+use Rattle.nt_explore.specs.declared.plan.Ask.{Ask}
 use Rattle.nt_explore.specs.declared.position.Position.{Position}
+
+abbrev pub plan_of : List (Vec Ask Global) → Plan
+plan_of lanes = map (λ lane. map asked lane.items) lanes
 
 -- how far the lanes are, in this dispatcher
 abbrev pub point_at : List ℕ → Dispatcher → Point
@@ -88,12 +94,12 @@ abbrev pub Rises : List Edge → Type 0
 Rises [] = Unit {0}
 Rises (e ∷ es) = ((f : Edge) → Contains es f → e.from ≤ f.from) × Rises es
 
--- to the edges came those from this point, to where the tried lanes lead
-pub record Leads (plan : Plan) (p : Point) (index states : ℕ) (points : ℕ → Point) (tried : ℕ → Type 0) (old new : List Edge) : Type 0 where
+-- to the edges came those from this point, to where these lanes lead, but not those that are not tried
+pub record Leads (plan : Plan) (kinds : List ℕ) (p : Point) (index states : ℕ) (points : ℕ → Point) (tried : ℕ → Type 0) (old new : List Edge) : Type 0 where
   pub kept : (e : Edge) → Contains old e → Contains new e
   pub goes : (e : Edge) → Contains new e → Contains old e ⊎ ((e.from ≡ index) × (e.to < states) × (lane : ℕ) × Goes plan p lane (points e.to))
   pub rises : Rises old → ((e : Edge) → Contains old e → e.from ≤ index) → Rises new
-  pub all : (lane : ℕ) (q : Point) → tried lane → Goes plan p lane q → (e : Edge) × Contains new e × (e.from ≡ index) × (e.to < states) × (points e.to ≡ q)
+  pub all : (lane : ℕ) (q : Point) → tried lane → TriedGoes plan kinds p lane q → (e : Edge) × Contains new e × (e.from ≡ index) × (e.to < states) × (points e.to ≡ q)
 
 -- the lane leads to this point, which is one of them now
 pub record Meets (plan : Plan) (start : Point) (old new : List Visit) (p : Point) (j : ℕ) (point : ℕ → Point) : Type 0 where
@@ -103,29 +109,29 @@ pub record Meets (plan : Plan) (start : Point) (old new : List Visit) (p : Point
   pub is : points j ≡ p
   pub deep : (i : ℕ) → length old ≤ i → i < length new → points i ≡ p
 
--- a lane leads from the one point to the other
-abbrev pub CanGoTo : Plan → Point → Point → Type 0
-CanGoTo plan p q = (lane : ℕ) × Goes plan p lane q
+-- a lane that is tried leads from the one point to the other
+abbrev pub CanGoTo : Plan → List ℕ → Point → Point → Type 0
+CanGoTo plan kinds p q = (lane : ℕ) × TriedGoes plan kinds p lane q
 
--- each of the first lanes leads from this point to one of them
-pub record Tries (plan : Plan) (start : Point) (old new : List Visit) (pairs more : List Edge) (p : Point) (index lanes : ℕ) (point : ℕ → Point) : Type 0 where
+-- each of the first lanes that is tried leads from this point to one of them
+pub record Tries (plan : Plan) (kinds : List ℕ) (start : Point) (old new : List Visit) (pairs more : List Edge) (p : Point) (index lanes : ℕ) (point : ℕ → Point) : Type 0 where
   pub points : ℕ → Point
   pub grows : Grows plan start old new point points
   pub deep : (i : ℕ) → length old ≤ i → i < length new → steps (points i).at ≡ steps p.at + 1
-  pub came : (i : ℕ) → length old ≤ i → i < length new → CanGoTo plan p (points i)
-  pub tried : (lane : ℕ) (q : Point) → lane < lanes → Goes plan p lane q → HasPoint new points q
-  pub leads : Leads plan p index (length new) points (λ lane. lane < lanes) pairs more
-  pub count : (steps : ℕ) × CountsTo (CanGo plan p) lanes steps × (length more ≡ length pairs + steps)
+  pub came : (i : ℕ) → length old ≤ i → i < length new → CanGoTo plan kinds p (points i)
+  pub tried : (lane : ℕ) (q : Point) → lane < lanes → TriedGoes plan kinds p lane q → HasPoint new points q
+  pub leads : Leads plan kinds p index (length new) points (λ lane. lane < lanes) pairs more
+  pub count : (steps : ℕ) × CountsTo (CanGo plan kinds p) lanes steps × (length more ≡ length pairs + steps)
 
--- one more lane leads from this point to one of them
-pub record TriesLane (plan : Plan) (start : Point) (old new : List Visit) (pairs more : List Edge) (p : Point) (index lane : ℕ) (point : ℕ → Point) : Type 0 where
+-- one more lane leads from this point to one of them, if it is tried
+pub record TriesLane (plan : Plan) (kinds : List ℕ) (start : Point) (old new : List Visit) (pairs more : List Edge) (p : Point) (index lane : ℕ) (point : ℕ → Point) : Type 0 where
   pub points : ℕ → Point
   pub grows : Grows plan start old new point points
   pub deep : (i : ℕ) → length old ≤ i → i < length new → steps (points i).at ≡ steps p.at + 1
-  pub came : (i : ℕ) → length old ≤ i → i < length new → CanGoTo plan p (points i)
-  pub tried : (q : Point) → Goes plan p lane q → HasPoint new points q
-  pub leads : Leads plan p index (length new) points (λ l. l ≡ lane) pairs more
-  pub count : (steps : ℕ) × IsOneIf (CanGo plan p lane) steps × (length more ≡ length pairs + steps)
+  pub came : (i : ℕ) → length old ≤ i → i < length new → CanGoTo plan kinds p (points i)
+  pub tried : (q : Point) → TriedGoes plan kinds p lane q → HasPoint new points q
+  pub leads : Leads plan kinds p index (length new) points (λ l. l ≡ lane) pairs more
+  pub count : (steps : ℕ) × IsOneIf (CanGo plan kinds p lane) steps × (length more ≡ length pairs + steps)
 
 -- one of these threads waits
 abbrev pub WaitsAmong : State → List Bool → Type 0
@@ -144,23 +150,23 @@ abbrev pub MeetsFrom : Plan → Point → (old new : List Visit) → ℕ → ℕ
 MeetsFrom plan start old new parent lane p j =
     (point : ℕ → Point) → IsWalk plan start old point → Goes plan (point parent) lane p → Meets plan start old new p j point
 
--- whatever points were met, each of the first lanes is tried from the one with this number, which is this one
-abbrev pub TriesAt : Plan → Point → (old new : List Visit) → (pairs more : List Edge) → Point → ℕ → ℕ → Type 0
-TriesAt plan start old new pairs more p index lanes =
-    (point : ℕ → Point) → IsWalk plan start old point → point index ≡ p → Tries plan start old new pairs more p index lanes point
+-- whatever points were met, each of the first lanes is tried from the one with this number, which is this one, or stands alike with a lower one
+abbrev pub TriesAt : Plan → List ℕ → Point → (old new : List Visit) → (pairs more : List Edge) → Point → ℕ → ℕ → Type 0
+TriesAt plan kinds start old new pairs more p index lanes =
+    (point : ℕ → Point) → IsWalk plan start old point → point index ≡ p → Tries plan kinds start old new pairs more p index lanes point
 
 -- the same of one lane more
-abbrev pub TriesLaneAt : Plan → Point → (old new : List Visit) → (pairs more : List Edge) → Point → ℕ → ℕ → Type 0
-TriesLaneAt plan start old new pairs more p index lane =
-    (point : ℕ → Point) → IsWalk plan start old point → point index ≡ p → TriesLane plan start old new pairs more p index lane point
+abbrev pub TriesLaneAt : Plan → List ℕ → Point → (old new : List Visit) → (pairs more : List Edge) → Point → ℕ → ℕ → Type 0
+TriesLaneAt plan kinds start old new pairs more p index lane =
+    (point : ℕ → Point) → IsWalk plan start old point → point index ≡ p → TriesLane plan kinds start old new pairs more p index lane point
 
 -- the same of one that leads to this point
 abbrev pub TriesLaneTo : Plan → Point → (old new : List Visit) → (pairs more : List Edge) → ℕ → ℕ → Point → Type 0
 TriesLaneTo plan start old new pairs more index lane next =
-    (p : Point) → IsWide plan p → (point : ℕ → Point) → IsWalk plan start old point → point index ≡ p → Goes plan p lane next
-    → TriesLane plan start old new pairs more p index lane point
+    (kinds : List ℕ) (p : Point) → IsWide plan p → (point : ℕ → Point) → IsWalk plan start old point → point index ≡ p → TriedGoes plan kinds p lane next
+    → TriesLane plan kinds start old new pairs more p index lane point
 
--- where the lane leads, if it goes
-abbrev pub LeadsTo : Plan → Point → ℕ → Option Point → Type 0
-LeadsTo plan p lane None = (q : Point) → Goes plan p lane q → ⊥
-LeadsTo plan p lane (Some next) = Goes plan p lane next
+-- where the lane leads, if it is tried and goes
+abbrev pub LeadsTo : Plan → List ℕ → Point → ℕ → Option Point → Type 0
+LeadsTo plan kinds p lane None = (q : Point) → TriedGoes plan kinds p lane q → ⊥
+LeadsTo plan kinds p lane (Some next) = TriedGoes plan kinds p lane next

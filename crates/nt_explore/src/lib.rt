@@ -12,11 +12,16 @@
 //! hash is known already, that state is made again, from the start and the lanes that led there, and the two are compared
 //! (`Core::is_like`). Equal states have equal hashes, so each is met once; that two others have the same costs time alone.
 //!
+//! **Of threads that stand alike only the lowest goes**: at the same place of the same calls, which name neither of them, they run, wait for
+//! nothing and own nothing, and nobody waits for them. Each order of the others has its image, as long, which hangs and loses waits as it does
+//! (`nt_apart`).
+//!
 //! Where all states were met and one hangs, it also tells from when on a wait was lost ([`Loss`]), which is often earlier. For that each
 //! step is kept as the numbers of two states, 8 bytes. A wait is lost where it pends and is lost wherever a lane leads from there. So
 //! for each thread one pass over the steps, the last first, leaves the states in which its wait is lost.
 #![tactic(auto)]
 
+mod alike;
 mod explored;
 mod going;
 mod hanging;

@@ -1,12 +1,14 @@
 //! What each thread is to call, one after another.
-ghost use Rattle.std.specs.Prelude.{◌≡◌, ◌≤◌, ◌<◌, ◌^◌, ◌+◌, ◌++◌, ◌∷◌, [], length, replicate, slice_get, slice_set, IsSome, IfOk, OnOk, OnErr};
+ghost use Rattle.std.specs.Prelude.{true, false, ◌≡◌, ◌≤◌, ◌<◌, ◌^◌, ◌+◌, ◌++◌, ◌∷◌, [], length, replicate, slice_get, slice_set, IsSome, IfOk, OnOk, OnErr};
 ghost use Rattle.std.specs.Option.{option_copied, option_map};
 ghost use Rattle.nt_look.specs.Orders.{asks};
 ghost use Rattle.nt_explore.specs.Search.{asked};
-ghost use Rattle.nt_explore.specs.Lanes.{plan_of};
+ghost use Rattle.nt_explore.specs.Lanes.{IsUnnamed};
+ghost use Rattle.nt_explore.specs.Walk.{plan_of};
 
+use crate::alike::{are_same, lanes_name};
 use nt_calls::Call;
-use nt_status::Moment;
+use nt_status::{Handle, Moment};
 use std::alloc::{AllocError, Global};
 use std::marker::Model;
 
@@ -27,7 +29,7 @@ pub struct Plan {
 
 impl Model for Plan {
     ghost use Rattle.nt_look.specs.Orders as orders;
-    ghost use Rattle.nt_explore.specs.Lanes.{plan_of};
+    ghost use Rattle.nt_explore.specs.Walk.{plan_of};
 
     ghost Value = { orders.Plan };
 
@@ -99,5 +101,25 @@ impl Plan {
     {
         let asks = self.lanes.get(lane as usize)?;
         ask_in(asks, position)
+    }
+
+    /// Whether both lanes have the same to do.
+    pub(crate) fn are_same(&self, a: u32, b: u32) -> bool
+        ensures { result ≡ true → asks self.now b ≡ asks self.now a }
+    {
+        match self.lanes.get(a as usize) {
+            Some(asks) => match self.lanes.get(b as usize) {
+                Some(others) => are_same(others, asks),
+                None => false,
+            },
+            None => false,
+        }
+    }
+
+    /// Whether a call names the thread's handle.
+    pub(crate) fn names(&self, thread: u32) -> bool
+        ensures { result ≡ false → IsUnnamed self.now thread }
+    {
+        lanes_name(&self.lanes, Handle::new(thread))
     }
 }

@@ -1,12 +1,15 @@
 //! The search, level by level.
 ghost use Rattle.std.specs.Prelude.{◌≡◌, ◌<◌, ◌≤◌, ◌+◌, ◌^◌, ℕ, length, Option, None, Some, IsSome, IfOk, OnErr, OnOk};
 ghost use Rattle.std.specs.Option.{ForSome, option_map};
+ghost use Rattle.nt_machine.specs.Dispatcher.{state};
 ghost use Rattle.nt_explore.specs.declared.loss.Edges.{Edges};
 ghost use Rattle.nt_explore.specs.Search.{start_of, TellsVerdict, TellsLoss, HasLoss, TellsSearch, IsUnderWay, Learns};
 ghost use Rattle.nt_explore.specs.Walk.{point_of, AreBehind, LeadsTo, TriesAt, TriesLaneAt, TriesLaneTo};
 ghost use Rattle.nt_explore.specs.Slots.{IsTable};
 ghost use Rattle.nt_explore.specs.Levels.{LiesAt, LooksOn, OfSearch, first_then, one_more_if};
+ghost use Rattle.nt_explore.specs.Lanes.{AreKinds};
 
+use crate::alike::{is_tried, kinds_of};
 use crate::explored::{Explored, Loss, OrderVerdict};
 use crate::going::{can_go, go};
 use crate::hanging::hangs;
@@ -34,18 +37,22 @@ struct Counts {
     first: Option<usize>,
 }
 
-/// The position to which the lane leads; none where it does not go.
+/// The position to which the lane leads; none where it does not go, or need not since a lower lane stands alike.
 fn next_of(
     alloc: Global,
     plan: &Plan,
+    kinds: &Vec<u32>,
     position: &Position,
     lane: u32,
 ) -> Result<Option<Position>, AllocError>
     requires wide { length position.now.places.items ≡ length plan.now }
     requires known { lane < length plan.now }
-    ensures { IfOk result (λ next. LeadsTo plan.now (point_of position.now) lane (option_map point_of next)) }
+    ensures { IfOk result (λ next. LeadsTo plan.now kinds.now.items (point_of position.now) lane (option_map point_of next)) }
 {
     if !can_go(plan, position, lane) {
+        return Ok(None);
+    }
+    if !is_tried(kinds, position, lane) {
         return Ok(None);
     }
     let mut next = copy_of(alloc, position)?;
@@ -83,6 +90,7 @@ fn try_lane(
     alloc: Global,
     start: &Core,
     plan: &Plan,
+    kinds: &Vec<u32>,
     met: &mut Met,
     pairs: &mut Vec<Edge>,
     position: &Position,
@@ -93,23 +101,24 @@ fn try_lane(
     requires there { index < length met.old.visits.items }
     requires wide { length position.now.places.items ≡ length plan.now }
     requires known { lane < length plan.now }
-    ensures point { OnOk result (TriesLaneAt plan.now (start_of plan.now start.now) met.old.visits.items met.new.visits.items
+    ensures point { OnOk result (TriesLaneAt plan.now kinds.now.items (start_of plan.now start.now) met.old.visits.items met.new.visits.items
         pairs.old.items pairs.new.items (point_of position.now) index lane) }
     ensures table { OnOk result (IsTable met.new.visits.items met.new.slots.items) }
     ensures longer { OnOk result (length met.old.visits.items ≤ length met.new.visits.items) }
 {
-    let next = next_of(alloc, plan, position, lane)?;
+    let next = next_of(alloc, plan, kinds, position, lane)?;
     match next {
         None => Ok(()),
         Some(next) => meet_next(alloc, start, plan, met, pairs, &next, index, lane),
     }
 }
 
-/// Tries each lane from the position, which is the state with this number.
+/// Tries each lane from the position, which is the state with this number, but for those that stand alike with a lower one.
 fn try_lanes(
     alloc: Global,
     start: &Core,
     plan: &Plan,
+    kinds: &Vec<u32>,
     met: &mut Met,
     pairs: &mut Vec<Edge>,
     position: &Position,
@@ -118,13 +127,23 @@ fn try_lanes(
     requires table { IsTable met.old.visits.items met.old.slots.items }
     requires there { index < length met.old.visits.items }
     requires wide { length position.now.places.items ≡ length plan.now }
-    ensures point { OnOk result (TriesAt plan.now (start_of plan.now start.now) met.old.visits.items met.new.visits.items
+    ensures point { OnOk result (TriesAt plan.now kinds.now.items (start_of plan.now start.now) met.old.visits.items met.new.visits.items
         pairs.old.items pairs.new.items (point_of position.now) index (length plan.now)) }
     ensures table { OnOk result (IsTable met.new.visits.items met.new.slots.items) }
     ensures longer { OnOk result (length met.old.visits.items ≤ length met.new.visits.items) }
 {
     for lane in 0..plan.lanes() {
-        try_lane(alloc, start, plan, met, pairs, position, index, lane as u32)?;
+        try_lane(
+            alloc,
+            start,
+            plan,
+            kinds,
+            met,
+            pairs,
+            position,
+            index,
+            lane as u32,
+        )?;
     }
     Ok(())
 }
@@ -153,6 +172,7 @@ fn look_at(
     alloc: Global,
     start: &Core,
     plan: &Plan,
+    kinds: &Vec<u32>,
     met: &mut Met,
     edges: &mut Edges,
     counts: &mut Counts,
@@ -161,7 +181,8 @@ fn look_at(
     requires table { IsTable met.old.visits.items met.old.slots.items }
     requires there { index < length met.old.visits.items }
     requires few { counts.old.hangs ≤ index }
-    ensures point { OnOk result (LooksOn plan.now start.now met.old.visits.items met.new.visits.items
+    requires alike { AreKinds plan.now (state start.now).threads kinds.now.items }
+    ensures point { OnOk result (LooksOn plan.now kinds.now.items start.now met.old.visits.items met.new.visits.items
         edges.old edges.new index counts.old counts.new) }
     ensures few { OnOk result (counts.new.hangs ≤ index + 1) }
     ensures table { OnOk result (IsTable met.new.visits.items met.new.slots.items) }
@@ -170,7 +191,16 @@ fn look_at(
     let position = again(alloc, start, plan, &met.visits, index)?;
     position.core.stands();
     let hung = hangs(alloc, plan, &position)?;
-    try_lanes(alloc, start, plan, met, &mut edges.pairs, &position, index)?;
+    try_lanes(
+        alloc,
+        start,
+        plan,
+        kinds,
+        met,
+        &mut edges.pairs,
+        &position,
+        index,
+    )?;
     note_waits(&mut edges.waits, edges.threads, &position)?;
     counts.first = first_then(hung, index, counts.first);
     counts.hangs = one_more_if(hung, counts.hangs);
@@ -260,8 +290,8 @@ fn judge(
     }
 }
 
-/// Tries all orders, until more states than `most` are met. The start is looked at in any case. The watcher learns of each look, also of a
-/// search to which memory is refused.
+/// Tries all orders, until more states than `most` are met. The start is looked at in any case. Of threads that stand alike only the lowest
+/// goes: the others' orders hang and lose waits as its do. The watcher learns of each look, also of a search to which memory is refused.
 pub fn explore<W: Watcher>(
     alloc: Global,
     start: &Core,
@@ -278,6 +308,7 @@ pub fn explore<W: Watcher>(
         × IsUnderWay plan.now (start_of plan.now start.now) most met looked
         × Learns W.learns met looked watcher.old watcher.new) }
 {
+    let kinds = kinds_of(alloc, plan, start)?;
     let mut met = Met::new(alloc)?;
     let mut counts = Counts {
         hangs: 0,
@@ -290,6 +321,7 @@ pub fn explore<W: Watcher>(
             alloc,
             start,
             plan,
+            &kinds,
             &mut met,
             &mut edges,
             &mut counts,

@@ -7,7 +7,7 @@ use Rattle.nt_devices.specs.Device.{Writing, one_more, Says}
 use Rattle.nt_look.specs.Orders.{Plan, Point, Goes, steps}
 use Rattle.nt_explore.specs.Search.{beginning, AreMetInTurn, IsUnderWay, Learns, TellsSearch}
 use Rattle.nt_explore.specs.declared.explored.Explored.{Explored}
-use Rattle.nt_explore.proofs.Levels.{begins_wide}
+use Rattle.nt_explore.proofs.Ways.{begins_wide}
 use Rattle.nt_explore.proofs.Walks.{deeper, goes_wide, start_low}
 use Rattle.nt_orders.specs.Ending.{EndsEarly, IsCutOff, IsSearched, TellsOrdersFault}
 use Rattle.nt_orders.specs.Plans.{Lanes}
@@ -103,22 +103,22 @@ level_on plan point n met met' depth end so below small more came b test = go b 
         }
 
 -- What is told of each look has the depth of the state that was looked at.
-pub course : {P : Type 0} (seen : P → Writing) (plan : Plan) (s : State) (point : ℕ → Point) (met : ℕ → ℕ) (looked : ℕ)
-    → AreMetInTurn plan (beginning plan s) point met looked → ((i : ℕ) → i < looked → i < met i)
+pub course : {P : Type 0} (seen : P → Writing) (plan : Plan) (kinds : List ℕ) (s : State) (point : ℕ → Point) (met : ℕ → ℕ) (looked : ℕ)
+    → AreMetInTurn plan kinds (beginning plan s) point met looked → ((i : ℕ) → i < looked → i < met i)
     → (old : Progress P) → old.depth ≡ 0 → old.deeper ≡ 1
     → (n : ℕ) → n ≤ looked → (new : Progress P) → Learns (IsTold seen) met n old new
     → IsLevel plan point n (met n) new.depth new.deeper × TellsCourse (λ i. steps (point i).at) met n (seen old.sink) (seen new.sink)
-course seen plan s point met looked turns left old flat one zero within new same = (
+course seen plan kinds s point met looked turns left old flat one zero within new same = (
   level_begins plan s point (met 0) new.depth new.deeper turns.first turns.one (ap (λ p. p.depth) same ∙ flat) (ap (λ p. p.deeper) same ∙ one),
   ap (λ p. seen p.sink) same,
 )
-course seen plan s point met looked turns left old flat one (suc n) within new (mid, before, it) =
+course seen plan kinds s point met looked turns left old flat one (suc n) within new (mid, before, it) =
     let inside : n < looked = omega (arith, within) in
-    let so = course seen plan s point met looked turns left old flat one n (omega (arith, inside)) mid before in
+    let so = course seen plan kinds s point met looked turns left old flat one n (omega (arith, inside)) mid before in
     let is : n + 1 ≡ suc n = omega arith in
     let small = it.small in
     let on = level_on plan point n (met n) (met (n + 1)) mid.depth mid.deeper so.0 (left n inside) (omega (arith, small, is)) (turns.more n inside)
-    (λ j past under. turns.came n j inside past under) (n + 1 == mid.deeper) refl in
+    (λ j past under. let came = turns.came n j inside past under in (came.0, came.1.1)) (n + 1 == mid.deeper) refl in
     let here = so.0.level n (omega arith) (so.0.ahead (left n inside)) in (
       subst (λ (end : ℕ). IsLevel plan point (suc n) (met (suc n)) new.depth end) (sym it.deeper)
           (subst (λ (depth : ℕ). IsLevel plan point (suc n) (met (suc n)) depth (if suc n == mid.deeper then met (suc n) else mid.deeper)) (sym it.depth)
@@ -137,7 +137,7 @@ is_searched seen most lanes s old begun new (Ok told) same flat one (met, looked
   looked,
   search,
   subst (λ sink. TellsCourse (λ i. steps (search.point i).at) met looked (seen sink) (seen new.sink)) same
-      (course seen lanes.plan s search.point met looked search.turns search.ends.left begun flat one looked (omega arith) new learns).1,
+      (course seen lanes.plan search.kinds s search.point met looked search.turns search.ends.left begun flat one looked (omega arith) new learns).1,
 )
 is_searched seen most lanes s old begun new (Err e) same flat one it = tt
 
@@ -151,13 +151,13 @@ is_cut_off seen most lanes s old begun new (Err e) same flat one (met, looked, s
   looked,
   search,
   subst (λ sink. TellsCourse (λ i. steps (search.point i).at) met looked (seen sink) (seen new.sink)) same
-      (course seen lanes.plan s search.point met looked search.turns search.left begun flat one looked (omega arith) new learns).1,
+      (course seen lanes.plan search.kinds s search.point met looked search.turns search.left begun flat one looked (omega arith) new learns).1,
 )
 
 -- so far the search was that ended
 pub cut_at_end : (most : ℕ) (lanes : Lanes) (s : State) (sink sink' : Writing) (told : Explored) → IsSearched most lanes s sink sink' told → IsCutOff most lanes s sink sink'
 cut_at_end most lanes s sink sink' told (met, looked, search, course) =
-    (met, looked, record { point = search.point; turns = search.turns; left = search.ends.left; few = search.ends.few }, course)
+    (met, looked, record { kinds = search.kinds; alike = search.alike; point = search.point; turns = search.turns; left = search.ends.left; few = search.ends.few }, course)
 
 -- nothing was told of a search where there was none
 pub told_none : (most : ℕ) (input : List ℕ) (fault : OrdersFault) (sink : Writing) → EndsEarly most input fault sink sink

@@ -2,7 +2,7 @@ use Rattle.std.proofs.Common.{arith, length}
 use Rattle.nt_machine.specs.Dispatcher.{state}
 use Rattle.nt_tables.specs.Handles.{opened_at}
 use Rattle.nt_explore.specs.Hash.{mixed_handle, low_half}
-use Rattle.nt_explore.proofs.Hashes.{folded_more, folded_all}
+use Rattle.nt_explore.proofs.Slots.{folded_more, folded_all}
 use Rattle.nt_explore.proofs.hash.hash_of_handles.Goals as goal
 
 pub loop-number-preserved : goal.loop-number-preserved

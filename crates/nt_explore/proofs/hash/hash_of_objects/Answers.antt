@@ -2,7 +2,7 @@ use Rattle.std.proofs.Common.{arith, length, ap, List}
 use Rattle.nt_objects.specs.declared.object.Object.{Object}
 use Rattle.nt_machine.specs.Dispatcher.{state}
 use Rattle.nt_explore.specs.Hash.{mixed_one_object}
-use Rattle.nt_explore.proofs.Hashes.{folded_more, folded_all}
+use Rattle.nt_explore.proofs.Slots.{folded_more, folded_all}
 use Rattle.nt_explore.proofs.hash.hash_of_objects.Goals as goal
 
 pub loop-number-preserved : goal.loop-number-preserved

@@ -1,7 +1,7 @@
 use Rattle.std.proofs.Common.{arith, length, ap, ℕ, ◌∙◌}
 use Rattle.std.specs.Prelude.{slice_index}
 use Rattle.nt_explore.specs.Hash.{mixed, low_half}
-use Rattle.nt_explore.proofs.Hashes.{folded_more, folded_all}
+use Rattle.nt_explore.proofs.Slots.{folded_more, folded_all}
 use Rattle.nt_explore.proofs.hash.hash_of_places.Goals as goal
 
 pub loop-i-preserved : goal.loop-i-preserved

@@ -1,8 +1,7 @@
 use Rattle.std.proofs.Common.{◌≡◌, ◌-◌, ◌+◌, ℕ, Option, Some, ap, sym, ◌∙◌, arith}
 use Rattle.nt_machine.specs.Dispatcher.{state}
 use Rattle.nt_explore.specs.Hash.{mixed_thread, mixed_queue}
-use Rattle.nt_explore.proofs.Queues.{next_stands}
-use Rattle.nt_explore.proofs.Hashes.{queue_on}
+use Rattle.nt_explore.proofs.Slots.{next_stands, queue_on}
 use Rattle.nt_explore.proofs.hash.hash_of_queue.Goals as goal
 
 pub loop-preserved : goal.loop-preserved

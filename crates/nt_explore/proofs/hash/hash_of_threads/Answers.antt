@@ -1,7 +1,7 @@
 use Rattle.std.proofs.Common.{arith}
 use Rattle.nt_machine.specs.Dispatcher.{state}
 use Rattle.nt_explore.specs.Hash.{mixed_one_thread}
-use Rattle.nt_explore.proofs.Hashes.{folded_more, folded_all}
+use Rattle.nt_explore.proofs.Slots.{folded_more, folded_all}
 use Rattle.nt_explore.proofs.hash.hash_of_threads.Goals as goal
 
 pub loop-thread-preserved : goal.loop-thread-preserved

@@ -1,5 +1,5 @@
 use Rattle.std.proofs.Common.{◌≡◌, ◌≤◌, [], replicate, vec_len, vec_capacity}
-use Rattle.nt_explore.specs.Lanes.{plan_of}
+use Rattle.nt_explore.specs.Walk.{plan_of}
 use Rattle.nt_explore.proofs.plan.empty_lanes.Given as goal
 
 abbrev pub invariant-loop : goal.invariant-loop

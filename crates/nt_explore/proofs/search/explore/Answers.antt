@@ -1,8 +1,9 @@
-use Rattle.std.proofs.Common.{◌≡◌, ◌<◌, ◌∙◌, ◌≤◌, ◌+◌, ℕ, arith, List, length, subst, sym, ap, refl, None, inl, inr, ◌⊎◌}
+use Rattle.std.proofs.Common.{◌≡◌, ◌<◌, ◌∙◌, ◌≤◌, ◌+◌, ℕ, arith, List, [], length, subst, sym, ap, refl, None, inl, inr, ◌⊎◌}
 use Rattle.nt_machine.specs.Dispatcher.{state}
 use Rattle.nt_explore.specs.declared.met.Visit.{Visit}
 use Rattle.nt_explore.specs.Search.{beginning, CanGo, CountsTo, SumsTo}
 use Rattle.nt_explore.specs.Levels.{IsSearch, IsCounted, LiesAt, then_met}
+use Rattle.nt_explore.proofs.Adding.{kinds_none}
 use Rattle.nt_explore.proofs.Levels.{search_begins}
 use Rattle.nt_explore.proofs.Counting.{left_more, left_none, learns_more, met_begins, on_refusal, tells_bound, under_way}
 use Rattle.std.proofs.lemmas.Bool.Decides.{nat_tests}
@@ -21,8 +22,8 @@ loop-looked-init g c =
       c.in_ok-met.ensures.table,
       omega arith,
       λ i. 1,
-      subst (λ (es : List Visit). IsCounted plan (beginning plan s) es edges 0 (record { hangs = 0; first = None }) (λ i. 1)) (sym first)
-          (search_begins plan s edges (c.no_edges-edges.ensures.threads ∙ c.threads.ensures) c.no_edges-edges.ensures.pairs c.no_edges-edges.ensures.waits),
+      subst (λ (es : List Visit). IsCounted plan c.in_ok-kinds.kinds.items (beginning plan s) es edges 0 (record { hangs = 0; first = None }) (λ i. 1)) (sym first)
+          (search_begins plan c.in_ok-kinds.kinds.items s edges (c.no_edges-edges.ensures.threads ∙ c.threads.ensures) c.no_edges-edges.ensures.pairs c.no_edges-edges.ensures.waits),
       (λ i below. absurd (omega (arith, below)), λ i some below. absurd (omega (arith, below))),
       refl,
     )
@@ -58,10 +59,10 @@ loop-looked-preserved g c =
 pub returns-clause-told : goal.returns-clause-told
 returns-clause-told g c =
     let start = beginning c.args.plan.now (state c.args.start.now) in
-    c.in_ok-verdict.ensures.told c.args.plan.now (state c.args.start.now) (subst (λ (es : List Visit). IsSearch c.args.plan.now start es c.loop-looked.edges c.loop-looked.looked c.loop-looked.counts.first) (sym c.deref.ensures.value) c.loop-looked.invariant.5.0)
+    c.in_ok-verdict.ensures.told c.args.plan.now c.in_ok-kinds.kinds.items (state c.args.start.now) (subst (λ (es : List Visit). IsSearch c.args.plan.now c.in_ok-kinds.kinds.items start es c.loop-looked.edges c.loop-looked.looked c.loop-looked.counts.first) (sym c.deref.ensures.value) c.loop-looked.invariant.5.0)
 
 -- fewer states than the bound: the search ended since all were looked at
-all_looked : (g : given.Over) (c : goal.After-drop-met-3 g) → c.len-2.result ≤ c.args.most → length c.deref.result.now ≤ c.loop-looked.looked
+all_looked : (g : given.Over) (c : goal.After-drop-kinds-2 g) → c.len-2.result ≤ c.args.most → length c.deref.result.now ≤ c.loop-looked.looked
 all_looked g c few =
     let same = ap (λ (es : List Visit). length es) c.deref.ensures.value in
     let count = c.len.ensures in
@@ -77,9 +78,9 @@ all_looked g c few =
 pub returns-clause-whole : goal.returns-clause-whole
 returns-clause-whole g c = λ few.
     let start = beginning c.args.plan.now (state c.args.start.now) in
-    c.in_ok-verdict.ensures.whole c.args.plan.now (state c.args.start.now) (subst (λ (es : List Visit). IsSearch c.args.plan.now start es c.loop-looked.edges c.loop-looked.looked c.loop-looked.counts.first) (sym c.deref.ensures.value) c.loop-looked.invariant.5.0) (all_looked g c few)
+    c.in_ok-verdict.ensures.whole c.args.plan.now c.in_ok-kinds.kinds.items (state c.args.start.now) (subst (λ (es : List Visit). IsSearch c.args.plan.now c.in_ok-kinds.kinds.items start es c.loop-looked.edges c.loop-looked.looked c.loop-looked.counts.first) (sym c.deref.ensures.value) c.loop-looked.invariant.5.0) (all_looked g c few)
 
-looked_some : (g : given.Over) (c : goal.After-drop-met-3 g) → 0 < c.loop-looked.looked
+looked_some : (g : given.Over) (c : goal.After-drop-kinds-2 g) → 0 < c.loop-looked.looked
 looked_some g c =
     let count = c.len.ensures in
     let some = c.loop-looked.invariant.1 in
@@ -92,7 +93,7 @@ looked_some g c =
     ]
 
 -- all were looked at, or the bound was met
-ended : (g : given.Over) (c : goal.After-drop-met-3 g) → (length c.loop-looked.met.visits.items ≡ c.loop-looked.looked) ⊎ (c.args.most < length c.loop-looked.met.visits.items)
+ended : (g : given.Over) (c : goal.After-drop-kinds-2 g) → (length c.loop-looked.met.visits.items ≡ c.loop-looked.looked) ⊎ (c.args.most < length c.loop-looked.met.visits.items)
 ended g c =
     let count = c.len.ensures in
     let within = c.loop-looked.invariant.0 in
@@ -118,6 +119,8 @@ returns-clause-searched g c =
       met,
       l.looked,
       record {
+        kinds = c.in_ok-kinds.kinds.items;
+        alike = c.in_ok-kinds.ensures;
         point = so.0.0;
         turns = so.1.turns;
         ends = record {
@@ -128,32 +131,39 @@ returns-clause-searched g c =
         };
         counts = record {
           of_states = states ∙ all;
-          of_steps = subst (λ (n : ℕ). SumsTo (λ i. CountsTo (CanGo plan (so.0.0 i)) (length plan)) l.looked n) (sym steps) so.1.counts.of_steps;
+          of_steps = subst (λ (n : ℕ). SumsTo (λ i. CountsTo (CanGo plan c.in_ok-kinds.kinds.items (so.0.0 i)) (length plan)) l.looked n) (sym steps) so.1.counts.of_steps;
           of_hangs = so.1.counts.of_hangs;
         };
-        bound = tells_bound plan s l.met.visits.items c.args.most l.looked c.len-2.result l.counts.hangs l.counts.first so.0.0 c.in_ok-verdict.verdict so.0.1 so.1.counts.of_hangs states over
+        bound = tells_bound plan c.in_ok-kinds.kinds.items s l.met.visits.items c.args.most l.looked c.len-2.result l.counts.hangs l.counts.first so.0.0 c.in_ok-verdict.verdict so.0.1 so.1.counts.of_hangs states over
             (subst (λ (es : List Visit). LiesAt es l.looked l.counts.first c.in_ok-verdict.verdict) c.deref.ensures.value c.in_ok-verdict.ensures.level);
       },
       l.invariant.7,
     )
+
+pub returns-in_err-kinds-clause-refused : goal.returns-in_err-kinds-clause-refused
+returns-in_err-kinds-clause-refused g c =
+    let plan = c.args.plan.now in
+    let s = state c.args.start.now in
+    let one : ℕ → ℕ = λ i. 1 in
+    on_refusal c.from_residual.result (one, 0, under_way plan [] (beginning plan s) c.args.most (λ i. beginning plan s) one 0 (kinds_none plan s.threads [] refl) (met_begins plan [] s).turns (left_none c.args.most one), refl)
 
 pub returns-in_err-met-clause-refused : goal.returns-in_err-met-clause-refused
 returns-in_err-met-clause-refused g c =
     let plan = c.args.plan.now in
     let s = state c.args.start.now in
     let one : ℕ → ℕ = λ i. 1 in
-    on_refusal c.from_residual.result (one, 0, under_way plan (beginning plan s) c.args.most (λ i. beginning plan s) one 0 (met_begins plan s).turns (left_none c.args.most one), refl)
+    on_refusal c.from_residual-in_err-met.result (one, 0, under_way plan c.in_ok-kinds.kinds.items (beginning plan s) c.args.most (λ i. beginning plan s) one 0 c.in_ok-kinds.ensures (met_begins plan c.in_ok-kinds.kinds.items s).turns (left_none c.args.most one), refl)
 
 pub returns-in_err-look_at-clause-refused : goal.returns-in_err-look_at-clause-refused
 returns-in_err-look_at-clause-refused g c =
     let l = c.loop-looked in
     let so = l.invariant.5 in
     on_refusal c.from_residual-in_err-look_at.result
-    (l.invariant.4, l.looked, under_way c.args.plan.now (beginning c.args.plan.now (state c.args.start.now)) c.args.most so.0.0 l.invariant.4 l.looked so.1.turns l.invariant.6, l.invariant.7)
+    (l.invariant.4, l.looked, under_way c.args.plan.now c.in_ok-kinds.kinds.items (beginning c.args.plan.now (state c.args.start.now)) c.args.most so.0.0 l.invariant.4 l.looked c.in_ok-kinds.ensures so.1.turns l.invariant.6, l.invariant.7)
 
 pub returns-in_err-verdict-clause-refused : goal.returns-in_err-verdict-clause-refused
 returns-in_err-verdict-clause-refused g c =
     let l = c.loop-looked in
     let so = l.invariant.5 in
     on_refusal c.from_residual-in_err-verdict.result
-    (l.invariant.4, l.looked, under_way c.args.plan.now (beginning c.args.plan.now (state c.args.start.now)) c.args.most so.0.0 l.invariant.4 l.looked so.1.turns l.invariant.6, l.invariant.7)
+    (l.invariant.4, l.looked, under_way c.args.plan.now c.in_ok-kinds.kinds.items (beginning c.args.plan.now (state c.args.start.now)) c.args.most so.0.0 l.invariant.4 l.looked c.in_ok-kinds.ensures so.1.turns l.invariant.6, l.invariant.7)

@@ -16,6 +16,6 @@ invariant-loop-looked g l =
     × IsTable l.met.visits.items l.met.slots.items
     × (l.counts.hangs ≤ l.looked)
     × (met : ℕ → ℕ)
-    × IsCounted l.plan (beginning l.plan (state l.start)) l.met.visits.items l.edges l.looked l.counts met
+    × IsCounted l.plan l.kinds.items (beginning l.plan (state l.start)) l.met.visits.items l.edges l.looked l.counts met
     × HasLeft l.most met l.looked
     × Learns g.W.Watcher.learns met l.looked l.initial.watcher l.watcher

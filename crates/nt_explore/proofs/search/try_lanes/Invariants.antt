@@ -10,4 +10,4 @@ abbrev pub invariant-loop-lane : goal.invariant-loop-lane
 invariant-loop-lane l =
     IsTable l.met.visits.items l.met.slots.items
     × (length l.initial.met.visits.items ≤ length l.met.visits.items)
-    × ((point : ℕ → Point) → IsWalk l.plan (beginning l.plan (state l.start)) l.initial.met.visits.items point → point l.index ≡ point_at l.position.places.items l.position.core → Tries l.plan (beginning l.plan (state l.start)) l.initial.met.visits.items l.met.visits.items l.initial.pairs.items l.pairs.items (point_at l.position.places.items l.position.core) l.index l.lane point)
+    × ((point : ℕ → Point) → IsWalk l.plan (beginning l.plan (state l.start)) l.initial.met.visits.items point → point l.index ≡ point_at l.position.places.items l.position.core → Tries l.plan l.kinds.items (beginning l.plan (state l.start)) l.initial.met.visits.items l.met.visits.items l.initial.pairs.items l.pairs.items (point_at l.position.places.items l.position.core) l.index l.lane point)
