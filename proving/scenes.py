@@ -249,8 +249,8 @@ def told(folder):
     for held in ("", f"$ {' '.join(script)}\none\n"):
         write(f"{folder}/tree/examples/reports", f"{held}$ {' '.join(why)}\nheld\n  $ 2\n")
         yield steps.runs_of(f"{folder}/tree") == [(script, held and "one\n"), (why, "held\n  $ 2\n")]
-    write(f"{folder}/{telling.LEAST}", "a scene: 3\n")
-    with unittest.mock.patch.object(telling, "Progress", functools.partial(Progress, out=NOWHERE)), ThreadPoolExecutor(1) as lane:
+    quiet, least = (telling, "Progress", functools.partial(Progress, out=NOWHERE)), (telling.LEAST, {"a scene": 3})
+    with unittest.mock.patch.object(*quiet), unittest.mock.patch.dict(*least), ThreadPoolExecutor(1) as lane:
         for words, is_beside in itertools.product(["echo 3 passed, 0 failed", *NO_STEPS], (False, True)):
             gate, step = telling.Gate(folder, "scene"), telling.Beside(steps.command(folder, "sh", "-c", words), lane)
             if is_beside:
