@@ -1,9 +1,9 @@
 -- The steps of an order, a line each, in columns; and who hangs at its end, in words.
-use Rattle.std.specs.Prelude.{◌≡◌, ℕ, ◌<◌, ◌-◌, ◌&&◌, ◌==◌, nat_lt, Bool, List, ◌++◌, length, max, replicate, if◌then◌else◌, codes}
+use Rattle.std.specs.Prelude.{ℕ, ◌-◌, ◌&&◌, ◌==◌, nat_lt, Bool, List, ◌++◌, length, max, replicate, if◌then◌else◌, codes}
 use Rattle.std.specs.FinMap.{len}
 use Rattle.std.specs.List.{flat_map, fold}
 use Rattle.std.specs.Fmt.{decimal}
-use Rattle.nt_calls.specs.State.{State, pends}
+use Rattle.nt_calls.specs.State.{State}
 use Rattle.nt_wording.specs.Verdicts.{knot_text, marks_in, others_text}
 use Rattle.nt_orders.specs.declared.rows.Row.{Row}
 
