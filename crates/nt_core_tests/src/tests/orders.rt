@@ -101,6 +101,57 @@ const LOWER_FIRST: &[Row] = &[Row {
     told: Told::None,
 }];
 
+const ALIKE: &[&[Does]] = &[
+    &[Takes(3), Gives(3)],
+    &[Takes(3), Gives(3)],
+    &[Takes(3), Gives(3)],
+];
+
+const TWO_KEEP: &[&[Does]] = &[
+    &[Takes(2), Takes(2), Gives(2)],
+    &[Takes(2), Takes(2), Gives(2)],
+];
+
+const OTHERS_ALIKE: &[&[Does]] = &[
+    &[Takes(3), Gives(3)],
+    &[Takes(3), Takes(4), Gives(4)],
+    &[Takes(3), Takes(4), Gives(4)],
+];
+
+/// Of threads that stand alike only the lowest goes.
+const LOWEST: &[Row] = &[
+    Row {
+        name: "three threads of the same lines",
+        locks: 1,
+        lanes: ALIKE,
+        most: 1000,
+        states: 10,
+        steps: 12,
+        hangs: 0,
+        told: Told::None,
+    },
+    Row {
+        name: "two that keep their lock",
+        locks: 1,
+        lanes: TWO_KEEP,
+        most: 1000,
+        states: 7,
+        steps: 8,
+        hangs: 1,
+        told: Told::Hangs(&[0, 0, 0, 1], Some((&[0, 1], 1))),
+    },
+    Row {
+        name: "two of the same lines beside another",
+        locks: 2,
+        lanes: OTHERS_ALIKE,
+        most: 1000,
+        states: 26,
+        steps: 37,
+        hangs: 5,
+        told: Told::Hangs(&[1, 0, 1, 1], Some((&[1, 0], 0))),
+    },
+];
+
 /// How many states of the crossed locks were met after each look.
 const MET: &[usize] = &[
     3, 5, 6, 8, 10, 12, 14, 14, 15, 15, 16, 17, 18, 19, 19, 21, 21, 22, 22, 23, 23, 24, 25, 26, 26,
@@ -299,6 +350,11 @@ fn philosophers_hang(rt: HostRuntime) {
 #[test]
 fn philosophers_who_take_the_lower_fork_first_do_not_hang(rt: HostRuntime) {
     tells_just_this(&rt, LOWER_FIRST);
+}
+
+#[test]
+fn of_threads_that_stand_alike_only_the_lowest_goes(rt: HostRuntime) {
+    tells_just_this(&rt, LOWEST);
 }
 
 #[test]
