@@ -32,8 +32,10 @@ static void block_end(int how)
 static void call_until_signaled(void)
 {
     signal(SIGTERM, ends);
-    block_end(SIG_UNBLOCK);
     HANDLE event = CreateEvent(NULL, FALSE, FALSE, NULL);
+    /* (A sanitizer looks for leaks at the end, and waits for an allocation that the handler interrupted: so there is none from here on.) */
+    must(WaitForSingleObject(event, 0) == WAIT_TIMEOUT);
+    block_end(SIG_UNBLOCK);
     for (;;) {
         SetEvent(event);
         WaitForSingleObject(event, 0);
