@@ -1,7 +1,7 @@
 """Every order of a script's lines, over the machine of bench/machine.py: the states, what hangs and what is lost, and the report of it."""
 import re
 
-from machine import BACK, DEEP, DENIED, ENDED, GONE, NO_HANDLE, NOT_OWNER, PARAMETER, TOO_MANY, UNKNOWN, WAITING, Event, Gone, Machine, Mutex, Semaphore, Thread, Timer
+from machine import BACK, CONTEXT, DEEP, DENIED, ENDED, GONE, MODIFY, NO_HANDLE, NOT_OWNER, PARAMETER, TOO_MANY, UNKNOWN, WAITING, Event, Gone, Machine, Mutex, Semaphore, Thread, Timer
 
 CREATES = ("event", "semaphore", "mutex", "timer", "dup")
 NAMES_ONE = ("set", "reset", "pulse", "release", "unlock", "arm", "cancel", "apc", "close")
@@ -96,19 +96,27 @@ class Script:
 
 # ---- what hangs
 
+def is_called(machine, who):
+    """Whether an APC is queued to the thread, or an armed timer will queue one."""
+    timers = [it for it in machine.objects if isinstance(it, Timer) and it.armed]
+    return bool(machine.apcs[who]) or any(it.armed.routine and it.armed.routine[2] == who for it in timers)
+
+
 def ends_in_time(machine, who, wait):
     """Whether time alone can end it: a deadline, timers that are armed, APCs."""
-    timers = [it for it in machine.objects if isinstance(it, Timer) and it.armed]
     comes = [machine.ready(who, it) or isinstance(machine.objects[it], Timer) and bool(machine.objects[it].armed) for it in wait.objects]
-    called = bool(machine.apcs[who]) or any(it.armed.routine and it.armed.routine[2] == who for it in timers)
     fits = bool(comes) and all(comes) if wait.all else any(comes)
-    return wait.deadline is not None or fits or wait.alertable and called
+    return wait.deadline is not None or fits or wait.alertable and is_called(machine, who)
+
+
+def is_given(machine, right, number):
+    """Whether a handle of the object has this right. (Where none has, none ever will: a duplicate has no right that its source lacks.)"""
+    return any(opened and opened[0] == number and opened[1] & right for opened in machine.handles)
 
 
 def is_held(machine, knot, who, number):
     """Whether the knot holds the object: nobody outside it can make it signaled."""
     it = machine.objects[number]
-    named = any(opened and opened[0] == number for opened in machine.handles)
     if isinstance(it, Mutex):
         return it.owner in knot and it.owner != who
     if isinstance(it, Thread):
@@ -116,12 +124,12 @@ def is_held(machine, knot, who, number):
     if isinstance(it, Gone):
         return True
     idle = isinstance(it, Event) or isinstance(it, Semaphore) or it.armed is None
-    return not named and idle and not machine.ready(who, number)
+    return not is_given(machine, MODIFY, number) and idle and not machine.ready(who, number)
 
 
 def is_tied(machine, knot, who):
     wait = machine.waits.get(who)
-    if wait is None or wait.deadline is not None or wait.alertable:
+    if wait is None or wait.deadline is not None or wait.alertable and (is_called(machine, who) or is_given(machine, CONTEXT, who)):
         return False
     held = [is_held(machine, knot, who, it) for it in wait.objects]
     return any(held) if wait.all else all(held)
