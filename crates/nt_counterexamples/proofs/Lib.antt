@@ -1,3 +1,2 @@
 pub mod LockRuns
-pub mod ParkingRuns
-pub mod WordRuns
+pub mod SleepingRuns

@@ -1,5 +1,5 @@
--- What the words of a command line ask for.
-use Rattle.std.specs.Prelude.{ℕ, ◌≡◌, ◌==◌, ◌&&◌, ◌||◌, nat_le, nat_lt, Bool, true, false, not, List, [], ◌∷◌, length, Option, None, Some, option_map, option_and_then, is_some, take, drop, position, Result, Ok, Err, if◌then◌else◌, codes}
+-- The commands, with the options and the usage line of each, and what the words of a command line ask for.
+use Rattle.std.specs.Prelude.{ℕ, ◌≡◌, ◌==◌, ◌&&◌, ◌||◌, ◌++◌, nat_le, nat_lt, Bool, true, false, not, List, [], ◌∷◌, length, Option, None, Some, option_map, option_and_then, is_some, take, drop, position, Result, Ok, Err, if◌then◌else◌, codes}
 use Rattle.std.specs.Str.{bytes_eq}
 use Rattle.std.specs.Option.{option_copied}
 use Rattle.nt_lines.specs.Options.{ends_options, is_operand}
@@ -10,10 +10,46 @@ use Rattle.nt_drawing.specs.declared.draw.Form.{Form}
 use Rattle.nt_drawing.specs.declared.draw.Form.TheVariants.{Page, Picture, Trace}
 use Rattle.nt_look_commands.specs.declared.command.Command.{Command}
 use Rattle.nt_look_commands.specs.declared.command.Command.TheVariants as command
+use Rattle.nt_look_commands.specs.declared.command.Command.TheVariants.{Timeline, Why, Explore}
 use Rattle.nt_look_commands.specs.declared.look.TheConstants.{MANY_STATES, MOST_STATES}
 use Rattle.nt_look_commands.specs.declared.look.Look.{Look}
 use Rattle.nt_look_commands.specs.declared.look.Look.TheVariants as look
-use Rattle.nt_look_commands.specs.Commands.{can_be_strict, command_of, has_option}
+
+-- ---- the commands
+
+-- the command with this name
+abbrev pub command_of : List ℕ → Option Command
+command_of word =
+    if bytes_eq word (codes "why") then Some Why
+    else if bytes_eq word (codes "timeline") then Some Timeline
+    else if bytes_eq word (codes "explore") then Some Explore
+    else None
+
+-- whether the option names a file to be drawn into
+abbrev pub is_drawing : List ℕ → Bool
+is_drawing option = bytes_eq option (codes "--svg") || bytes_eq option (codes "--html") || bytes_eq option (codes "--trace")
+
+-- whether the command has this option
+abbrev pub has_option : Command → List ℕ → Bool
+has_option Why option = bytes_eq option (codes "--at")
+has_option Timeline option = bytes_eq option (codes "--lines") || bytes_eq option (codes "--object") || bytes_eq option (codes "--thread") || is_drawing option
+has_option Explore option = bytes_eq option (codes "--most") || bytes_eq option (codes "--script")
+
+-- whether the command can be strict
+abbrev pub can_be_strict : Command → Bool
+can_be_strict Why = true
+can_be_strict Timeline = true
+can_be_strict Explore = false
+
+-- the line that tells how the command is called
+abbrev pub usage_of : Command → List ℕ
+usage_of Why = codes "ntlook: usage: ntlook why [--strict] FILE [--at LINE]\n"
+usage_of Timeline = codes "ntlook: usage: ntlook timeline [--strict] FILE [--lines A..B] [--object NAME] [--thread tN] [--svg OUT | --html OUT | --trace OUT]\n"
+usage_of Explore = codes "ntlook: usage: ntlook explore FILE [--script OUT] [--most STATES]   (1 to 4000000000; 1000000 if left out)\n"
+
+-- the same of all commands
+abbrev pub look_usage : List ℕ
+look_usage = usage_of Why ++ (usage_of Timeline ++ usage_of Explore)
 
 -- ---- the words after a command
 

@@ -7,7 +7,7 @@ use Rattle.nt_drawing.specs.Ending.{DrawingEnds}
 use Rattle.nt_timeline.specs.Ending.{TimelineTold}
 use Rattle.nt_orders.specs.Ending.{OrdersTold}
 use Rattle.nt_look_commands.specs.declared.command.Command.{Command}
-use Rattle.nt_look_commands.specs.Commands.{look_usage, usage_of}
+use Rattle.nt_look_commands.specs.CommandLine.{look_usage, usage_of}
 use Rattle.nt_look_commands.specs.CommandLine.{LookAsked, AskedExplore, AskedTimeline, AskedWhy}
 
 -- It is said that memory ran out; or the file was told of, to some writer.

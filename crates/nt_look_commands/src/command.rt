@@ -1,6 +1,6 @@
 //! The commands, with the options and the usage line of each.
 ghost use Rattle.std.specs.Prelude.{◌≡◌};
-ghost use Rattle.nt_look_commands.specs.Commands.{can_be_strict, command_of, has_option, is_drawing, usage_of};
+ghost use Rattle.nt_look_commands.specs.CommandLine.{can_be_strict, command_of, has_option, is_drawing, usage_of};
 ghost use Rattle.nt_look_commands.specs.declared.command.Command.TheVariants.{Timeline};
 
 /// A command of the program.
