@@ -5,6 +5,5 @@ mod devices;
 mod lines;
 mod lists;
 mod marks;
-mod objects;
 mod tables;
 mod waits;
