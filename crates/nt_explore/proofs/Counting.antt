@@ -6,13 +6,13 @@ use Rattle.std.proofs.lemmas.Bool.Decides.{nat_tests}
 use Rattle.nt_calls.specs.State.{State}
 use Rattle.nt_look.specs.Orders.{Plan, Point, Hangs, place}
 use Rattle.nt_apart.specs.Fewer.{IsLowestChosen}
-use Rattle.nt_explore.specs.Lanes.{AreKinds, TriedGoes, is_tried}
+use Rattle.nt_lanes.specs.Lanes.{AreKinds, TriedGoes, is_tried, beginning}
 use Rattle.nt_look.proofs.Searching.{lane_there}
 use Rattle.nt_explore.specs.declared.met.Visit.{Visit}
 use Rattle.nt_explore.specs.declared.loss.Edge.{Edge}
-use Rattle.nt_explore.specs.declared.explored.OrderVerdict.{OrderVerdict}
-use Rattle.nt_explore.specs.declared.explored.OrderVerdict.TheVariants as verdict
-use Rattle.nt_explore.specs.Search.{beginning, AreMetInTurn, IsUnderWay, AreDistinct, IsOneIf, SumsTo, CountsTo, CanGo, TellsBound, Learns}
+use Rattle.nt_explore.specs.declared.search.OrderVerdict.{OrderVerdict}
+use Rattle.nt_explore.specs.declared.search.OrderVerdict.TheVariants as verdict
+use Rattle.nt_explore.specs.Search.{AreMetInTurn, IsUnderWay, AreDistinct, IsOneIf, SumsTo, CountsTo, CanGo, TellsBound, Learns}
 use Rattle.nt_explore.specs.Walk.{Tries}
 use Rattle.nt_explore.specs.Levels.{AreLooked, AreMet, LiesAt, then_met, one_more_if, IsFirst}
 use Rattle.nt_explore.proofs.Ways.{order_of}

@@ -12,8 +12,7 @@ use Rattle.nt_look.specs.Orders.{Plan, Point, Goes, Hangs, IsLost, NoneHangs, No
 use Rattle.nt_look.proofs.Searching.{lane_there}
 use Rattle.nt_apart.specs.Fewer.{IsLowestChosen, LosesOne}
 use Rattle.nt_explore.specs.declared.met.Visit.{Visit}
-use Rattle.nt_explore.specs.Lanes.{TriedGoes, is_tried}
-use Rattle.nt_explore.specs.Search.{beginning}
+use Rattle.nt_lanes.specs.Lanes.{TriedGoes, is_tried, beginning}
 use Rattle.nt_explore.specs.Walk.{parent_of, lane_of, IsWalk, HasPoint, Tries, Arrives}
 use Rattle.nt_explore.specs.declared.loss.Edge.{Edge}
 use Rattle.nt_explore.specs.declared.loss.Edges.{Edges}

@@ -1,9 +1,7 @@
-pub mod Bare
 pub mod Losing
 pub mod Walks
 pub mod Ways
 pub mod Levels
 pub mod Counting
 pub mod Hung
-pub mod Adding
 pub mod Slots

@@ -20,7 +20,7 @@ use Rattle.nt_look.proofs.Searching.{loss_forth}
 use Rattle.nt_apart.specs.Fewer.{IsLowestChosen}
 use Rattle.nt_explore.specs.declared.loss.Edge.{Edge}
 use Rattle.nt_apart.proofs.Chosen.{losses_by_chosen}
-use Rattle.nt_explore.specs.Lanes.{TriedGoes, is_tried}
+use Rattle.nt_lanes.specs.Lanes.{TriedGoes, is_tried}
 use Rattle.nt_explore.specs.Levels.{kept, passed, IsRow, IsColumn, IsFirstLost, IsFirstLoss, earlier}
 
 calm : (r : Result Reply Refusal) → (r ≢ Err Memory) → wants_memory r ≡ false

@@ -11,8 +11,7 @@ use Rattle.std.proofs.Math.Seq.{take-append_seam}
 use Rattle.std.proofs.lemmas.List.{length-set, length_push, get_or-set_same, get_or-set_other, get_or_push, get_or_append_left}
 use Rattle.nt_look.specs.Orders.{Plan, Point}
 use Rattle.nt_explore.specs.declared.met.Visit.{Visit}
-use Rattle.nt_explore.specs.Walk.{no_visit, hash_at, IsOther, IsFound}
-use Rattle.nt_explore.specs.Slots.{slot_from, slot_after, slot_at, NoneFree, StandsIn, PutsIn, used, AreInSlots, IsTable}
+use Rattle.nt_explore.specs.Walk.{no_visit, hash_at, IsOther, IsFound, slot_from, slot_after, slot_at, NoneFree, StandsIn, PutsIn, used, AreInSlots, IsTable}
 use Rattle.nt_explore.proofs.Losing.{below_or}
 use Rattle.nt_explore.proofs.Walks.{behind_more}
 

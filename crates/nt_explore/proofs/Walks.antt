@@ -6,10 +6,10 @@ use Rattle.std.proofs.lemmas.List.{length-set, length_push, get_or_push, get_or_
 use Rattle.nt_look.specs.Orders.{Plan, Point, Goes, steps, place}
 use Rattle.nt_look.proofs.Searching.{steps_counted}
 use Rattle.nt_explore.specs.declared.met.Visit.{Visit}
-use Rattle.nt_explore.specs.Lanes.{TriedGoes}
+use Rattle.nt_lanes.specs.Lanes.{TriedGoes, beginning}
 use Rattle.nt_explore.specs.Walk.{no_visit, parent_of, lane_of, hash_at, AreBehind, IsWalk, HasPoint, IsFound, Meets, TriesLane, Tries, CanGoTo, edge, Went, LeadsTo}
 use Rattle.nt_calls.specs.State.{State}
-use Rattle.nt_explore.specs.Search.{beginning, CanGo, IsOneIf, SumsTo}
+use Rattle.nt_explore.specs.Search.{CanGo, IsOneIf, SumsTo}
 use Rattle.nt_explore.specs.Hash.{hash_of}
 use Rattle.nt_explore.specs.declared.loss.Edge.{Edge}
 use Rattle.nt_explore.proofs.Losing.{below_or, leads_on, leads_none, leads_then, goes_same}

@@ -12,8 +12,7 @@ use Rattle.nt_calls.specs.State.{State}
 use Rattle.nt_look.proofs.Searching.{steps_counted}
 use Rattle.nt_apart.specs.Fewer.{IsLowestChosen, OrderOf, LosesOne, ComesAsSoon, AreLowestWithin}
 use Rattle.nt_apart.proofs.Chosen.{lowest_come_as_soon}
-use Rattle.nt_explore.specs.Lanes.{TriedGoes, is_tried}
-use Rattle.nt_explore.specs.Search.{beginning}
+use Rattle.nt_lanes.specs.Lanes.{TriedGoes, is_tried, beginning}
 use Rattle.nt_explore.specs.Levels.{AreLooked}
 use Rattle.nt_explore.proofs.Walks.{deeper, goes_wide, steps_none}
 

@@ -5,14 +5,14 @@ use Rattle.nt_machine.specs.Dispatcher.{Dispatcher}
 use Rattle.nt_look.specs.Hangs.{marked}
 use Rattle.nt_look.specs.Orders.{Plan, Point, Goes, Hangs, IsLost, steps}
 use Rattle.nt_apart.specs.Fewer.{IsLowestChosen}
-use Rattle.nt_explore.specs.Lanes.{TriedGoes, is_tried}
+use Rattle.nt_lanes.specs.Lanes.{TriedGoes, is_tried, beginning, start_of}
 use Rattle.nt_explore.specs.declared.loss.Edge.{Edge}
 use Rattle.nt_explore.specs.declared.loss.Edges.{Edges}
 use Rattle.nt_explore.specs.declared.met.Visit.{Visit}
-use Rattle.nt_explore.specs.declared.explored.OrderVerdict.{OrderVerdict}
-use Rattle.nt_explore.specs.declared.explored.OrderVerdict.TheVariants as verdict
+use Rattle.nt_explore.specs.declared.search.OrderVerdict.{OrderVerdict}
+use Rattle.nt_explore.specs.declared.search.OrderVerdict.TheVariants as verdict
 use Rattle.nt_explore.specs.declared.search.Counts.{Counts}
-use Rattle.nt_explore.specs.Search.{beginning, start_of, AreMetInTurn, AreCounts}
+use Rattle.nt_explore.specs.Search.{AreMetInTurn, AreCounts}
 use Rattle.nt_explore.specs.Walk.{IsWalk, HasPoint, Rises, Arrives}
 
 -- the first that hangs, of those that were looked at

@@ -1,30 +1,12 @@
 -- What a search of all orders tells.
-use Rattle.std.specs.Prelude.{◌≡◌, ◌≢◌, ◌<◌, ◌≤◌, ◌⊎◌, ◌+◌, ℕ, zero, suc, List, length, replicate, Option, Some, None, IsSome}
-use Rattle.nt_calls.specs.State.{State}
-use Rattle.nt_machine.specs.Dispatcher.{Dispatcher, state}
-use Rattle.nt_look.specs.Orders as orders
-use Rattle.nt_look.specs.Orders.{Calls, Passes, Plan, Point, Hangs, Order, NoneHangs, NoneHangsWithin, IsShortestHang, IsShortestLoss}
+use Rattle.std.specs.Prelude.{◌≡◌, ◌≢◌, ◌<◌, ◌≤◌, ◌⊎◌, ◌+◌, ℕ, zero, suc, List, length, Option, Some, None, IsSome}
+use Rattle.nt_look.specs.Orders.{Plan, Point, Hangs, Order, NoneHangs, NoneHangsWithin, IsShortestHang, IsShortestLoss}
 use Rattle.nt_apart.specs.Fewer.{IsLowestChosen}
-use Rattle.nt_explore.specs.Lanes.{AreKinds, TriedGoes, is_tried}
-use Rattle.nt_explore.specs.declared.plan.Ask.{Ask}
-use Rattle.nt_explore.specs.declared.plan.Ask.TheVariants.{Call, Tick}
-use Rattle.nt_explore.specs.declared.explored.Explored.{Explored}
-use Rattle.nt_explore.specs.declared.explored.Loss.{Loss}
-use Rattle.nt_explore.specs.declared.explored.OrderVerdict.{OrderVerdict}
-use Rattle.nt_explore.specs.declared.explored.OrderVerdict.TheVariants as verdict
-
--- what is asked, in the words of orders
-abbrev pub asked : Ask → orders.Ask
-asked (Call call) = Calls call
-asked (Tick moment) = Passes moment
-
--- nothing of the plan was made yet
-abbrev pub beginning : Plan → State → Point
-beginning plan s = record { at = replicate (length plan) 0; state = s }
-
--- the same from this dispatcher
-abbrev pub start_of : Plan → Dispatcher → Point
-start_of plan core = beginning plan (state core)
+use Rattle.nt_lanes.specs.Lanes.{AreKinds, TriedGoes, is_tried}
+use Rattle.nt_explore.specs.declared.search.Explored.{Explored}
+use Rattle.nt_explore.specs.declared.search.Loss.{Loss}
+use Rattle.nt_explore.specs.declared.search.OrderVerdict.{OrderVerdict}
+use Rattle.nt_explore.specs.declared.search.OrderVerdict.TheVariants as verdict
 
 -- since when a wait was lost, where that is told
 abbrev pub TellsLoss : Plan → Point → Option Loss → Type 0

@@ -1,27 +1,13 @@
--- How a plan lies in its lists, and the states that a search met in its table. No public clause cites this module.
-use Rattle.std.specs.Prelude.{Vec, map, Contains, ◌⊎◌, true, false, Option, None, Some, ◌≡◌, ◌≢◌, ◌<◌, ◌≤◌, ◌+◌, ℕ, Bool, List, [], ◌∷◌, length, slice_index_or}
-use Rattle.std.specs.declared.alloc.Global.{Global}
+-- The states that a search met, in its table, and how they are found by their hashes. No public clause cites this module.
+use Rattle.std.specs.Prelude.{Contains, ◌⊎◌, true, false, Option, None, Some, ◌≡◌, ◌≢◌, ◌<◌, ◌≤◌, ◌+◌, ◌-◌, ◌%◌, ℕ, zero, suc, Bool, List, [], ◌∷◌, length, slice_index, slice_index_or, slice_set, nat_lt, if◌then◌else◌}
 use Rattle.nt_calls.specs.State.{State, pends}
-use Rattle.nt_machine.specs.Dispatcher.{Dispatcher, state}
 use Rattle.nt_look.specs.Hangs.{marked}
 use Rattle.nt_look.specs.Orders.{Plan, Point, Goes, steps}
-use Rattle.nt_explore.specs.Search.{asked, AreDistinct, CanGo, CountsTo, IsOneIf}
-use Rattle.nt_explore.specs.Lanes.{TriedGoes}
+use Rattle.nt_explore.specs.Search.{AreDistinct, CanGo, CountsTo, IsOneIf}
+use Rattle.nt_lanes.specs.Lanes.{TriedGoes}
 use Rattle.nt_explore.specs.Hash.{hash_of}
 use Rattle.nt_explore.specs.declared.loss.Edge.{Edge}
 use Rattle.nt_explore.specs.declared.met.Visit.{Visit}
-use Rattle.nt_explore.specs.declared.plan.Ask.{Ask}
-use Rattle.nt_explore.specs.declared.position.Position.{Position}
-
-abbrev pub plan_of : List (Vec Ask Global) → Plan
-plan_of lanes = map (λ lane. map asked lane.items) lanes
-
--- how far the lanes are, in this dispatcher
-abbrev pub point_at : List ℕ → Dispatcher → Point
-point_at places core = record { at = places; state = state core }
-
-abbrev pub point_of : Position → Point
-point_of position = point_at position.places.items position.core
 
 -- these lanes went, the last first
 abbrev pub Arrives : Plan → Point → List ℕ → Point → Type 0
@@ -170,3 +156,47 @@ TriesLaneTo plan start old new pairs more index lane next =
 abbrev pub LeadsTo : Plan → List ℕ → Point → ℕ → Option Point → Type 0
 LeadsTo plan kinds p lane None = (q : Point) → TriedGoes plan kinds p lane q → ⊥
 LeadsTo plan kinds p lane (Some next) = TriedGoes plan kinds p lane next
+
+-- ---- how they are found by their hashes
+
+-- the slot so many steps after this one, of so many: the first comes after the last
+abbrev pub slot_from : ℕ → ℕ → ℕ → ℕ
+slot_from first step count = if nat_lt step (count - first) then first + step else step - (count - first)
+
+-- the same after the hash's own
+abbrev pub slot_after : ℕ → ℕ → ℕ → ℕ
+slot_after hash step count = slot_from (hash % count) step count
+
+-- what stands there
+abbrev pub slot_at : List ℕ → ℕ → ℕ → ℕ → ℕ
+slot_at slots count hash step = slice_index slots (slot_after hash step count)
+
+-- no slot is free before this one
+abbrev pub NoneFree : List ℕ → ℕ → ℕ → ℕ → Type 0
+NoneFree slots count hash step = (k : ℕ) → k < step → slot_at slots count hash k ≢ 0
+
+-- the number stands in a slot, and none from the hash's own on is free before it
+abbrev pub StandsIn : List ℕ → ℕ → ℕ → ℕ → Type 0
+StandsIn slots count hash number = (step : ℕ) × (step < count) × (slot_at slots count hash step ≡ number) × NoneFree slots count hash step
+
+-- the number was put into the first free slot from the hash's own on
+abbrev pub PutsIn : List ℕ → List ℕ → ℕ → ℕ → ℕ → Type 0
+PutsIn old new count hash number =
+    (step : ℕ) × (step < count) × (slot_at old count hash step ≡ 0) × NoneFree old count hash step
+    × (new ≡ slice_set old (slot_after hash step count) number)
+
+-- how many slots are not free
+abbrev pub used : List ℕ → ℕ
+used [] = 0
+used (zero ∷ slots) = used slots
+used (suc number ∷ slots) = used slots + 1
+
+-- of the first n states, each but the start stands in the slots
+abbrev pub AreInSlots : List Visit → ℕ → List ℕ → Type 0
+AreInSlots visits n slots = (i : ℕ) → 0 < i → i < n → StandsIn slots (length slots) (hash_at visits i) (i + 1)
+
+-- the states that were met, and the slots in which they stand
+pub record IsTable (visits : List Visit) (slots : List ℕ) : Type 0 where
+  pub behind : AreBehind visits
+  pub stands : AreInSlots visits (length visits) slots
+  pub few : used slots ≤ length visits

@@ -4,13 +4,12 @@ ghost use Rattle.nt_status.specs.declared.refusal.Refusal.TheVariants.{Memory};
 ghost use Rattle.nt_machine.specs.Dispatcher.{state};
 ghost use Rattle.nt_calls.specs.State.{pends};
 ghost use Rattle.nt_look.specs.Orders.{Calls, Passes, IsAskMade, asks};
-ghost use Rattle.nt_explore.specs.Search.{asked};
-ghost use Rattle.nt_explore.specs.Walk.{point_of, GoesOn, Went};
+ghost use Rattle.nt_lanes.specs.Lanes.{asked, point_of};
+ghost use Rattle.nt_explore.specs.Walk.{GoesOn, Went};
 
-use crate::plan::{Ask, Plan};
-use crate::position::Position;
 use nt_calls::{Call, Reply};
 use nt_core::Core;
+use nt_lanes::{Ask, Plan, Position};
 use nt_status::{Moment, Refusal};
 use std::alloc::AllocError;
 

@@ -4,11 +4,11 @@ ghost use Rattle.nt_calls.specs.State.{pends};
 ghost use Rattle.nt_machine.specs.Dispatcher.{state};
 ghost use Rattle.nt_look.specs.Hangs.{marked};
 ghost use Rattle.nt_look.specs.Orders.{Hangs, asks, goes_on};
-ghost use Rattle.nt_explore.specs.Walk.{point_of, WaitsAmong, NoneWaitsAmong};
+ghost use Rattle.nt_explore.specs.Walk.{WaitsAmong, NoneWaitsAmong};
+ghost use Rattle.nt_lanes.specs.Lanes.{point_of};
 
-use crate::plan::Plan;
-use crate::position::Position;
 use nt_core::Core;
+use nt_lanes::{Plan, Position};
 use nt_look::{greatest_knot, is_stuck};
 use std::alloc::{AllocError, Global};
 

@@ -6,7 +6,7 @@ ghost use Rattle.nt_machine.specs.Dispatcher.{state};
 ghost use Rattle.nt_apc.specs.Queues.{apc_queue_of};
 ghost use Rattle.nt_tables.specs.Handles.{opened_at};
 ghost use Rattle.nt_explore.specs.Hash.{mixed, mixed_long, low_half, mixed_flag, mixed_moment, mixed_thread, due_of, mixed_object, mixed_object_at, mixed_queue, mixed_apc, mixed_apcs, mixed_wait, mixed_handle, mixed_one_thread, mixed_one_object, mixed_places, mixed_threads, mixed_objects, mixed_handles, hash_of};
-ghost use Rattle.nt_explore.specs.Walk.{point_at};
+ghost use Rattle.nt_lanes.specs.Lanes.{point_at};
 
 use nt_apc::Queued;
 use nt_core::Core;

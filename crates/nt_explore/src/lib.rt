@@ -21,17 +21,12 @@
 //! for each thread one pass over the steps, the last first, leaves the states in which its wait is lost.
 #![tactic(auto)]
 
-mod alike;
-mod explored;
 mod going;
 mod hanging;
 mod hash;
 mod loss;
 mod met;
-mod plan;
-mod position;
 mod search;
 
-pub use explored::{Explored, Loss, OrderVerdict};
-pub use plan::{Ask, Plan};
-pub use search::{Watcher, explore};
+pub use nt_lanes::{Ask, Plan};
+pub use search::{Explored, Loss, OrderVerdict, Watcher, explore};

@@ -8,9 +8,9 @@ ghost use Rattle.nt_explore.specs.Walk.{edge, AreBehind};
 ghost use Rattle.nt_explore.specs.Levels as levels;
 ghost use Rattle.nt_explore.specs.Levels.{OfLooked, OfSearch, IsRow, IsColumn, IsFirstMark, IsFirstLost, IsFirstLoss};
 
-use crate::explored::Loss;
 use crate::met::{Visit, way_to};
-use crate::position::Position;
+use crate::search::Loss;
+use nt_lanes::Position;
 use std::alloc::{AllocError, Global};
 
 /// A lane leads from a state to another.

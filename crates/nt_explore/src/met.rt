@@ -3,15 +3,13 @@ ghost use Rattle.std.specs.Prelude.{◌≡◌, ◌<◌, ◌≤◌, ◌+◌, ◌^
 ghost use Rattle.nt_machine.specs.Dispatcher.{state};
 ghost use Rattle.nt_look.specs.Orders.{Point};
 ghost use Rattle.nt_explore.specs.Hash.{hash_of};
-ghost use Rattle.nt_explore.specs.Search.{start_of};
-ghost use Rattle.nt_explore.specs.Slots.{slot_after, used, PutsIn, AreInSlots, IsTable};
-ghost use Rattle.nt_explore.specs.Walk.{no_visit, point_of, Arrives, AreBehind, IsWalk, IsOther, IsFound, MeetsFrom};
+ghost use Rattle.nt_lanes.specs.Lanes.{start_of, point_of};
+ghost use Rattle.nt_explore.specs.Walk.{no_visit, Arrives, AreBehind, IsWalk, IsOther, IsFound, MeetsFrom, slot_after, used, PutsIn, AreInSlots, IsTable};
 
 use crate::going::go_on;
 use crate::hash::hash_of;
-use crate::plan::Plan;
-use crate::position::{Position, at_start, is_like};
 use nt_core::Core;
+use nt_lanes::{Plan, Position, at_start, is_like};
 use std::alloc::{AllocError, Global};
 
 /// How a state was met. The first is the start.

@@ -3,22 +3,48 @@ ghost use Rattle.std.specs.Prelude.{◌≡◌, ◌<◌, ◌≤◌, ◌+◌, ◌^
 ghost use Rattle.std.specs.Option.{ForSome, option_map};
 ghost use Rattle.nt_machine.specs.Dispatcher.{state};
 ghost use Rattle.nt_explore.specs.declared.loss.Edges.{Edges};
-ghost use Rattle.nt_explore.specs.Search.{start_of, TellsVerdict, TellsLoss, HasLoss, TellsSearch, IsUnderWay, Learns};
-ghost use Rattle.nt_explore.specs.Walk.{point_of, AreBehind, LeadsTo, TriesAt, TriesLaneAt, TriesLaneTo};
-ghost use Rattle.nt_explore.specs.Slots.{IsTable};
+ghost use Rattle.nt_explore.specs.Search.{TellsVerdict, TellsLoss, HasLoss, TellsSearch, IsUnderWay, Learns};
+ghost use Rattle.nt_lanes.specs.Lanes.{start_of, point_of, AreKinds};
+ghost use Rattle.nt_explore.specs.Walk.{AreBehind, LeadsTo, TriesAt, TriesLaneAt, TriesLaneTo, IsTable};
 ghost use Rattle.nt_explore.specs.Levels.{LiesAt, LooksOn, OfSearch, first_then, one_more_if};
-ghost use Rattle.nt_explore.specs.Lanes.{AreKinds};
 
-use crate::alike::{is_tried, kinds_of};
-use crate::explored::{Explored, Loss, OrderVerdict};
 use crate::going::{can_go, go};
 use crate::hanging::hangs;
 use crate::loss::{Edge, Edges, first_loss, lead, no_edges, note_waits};
 use crate::met::{Met, Visit, again, way_to};
-use crate::plan::Plan;
-use crate::position::{Position, copy_of};
 use nt_core::Core;
+use nt_lanes::{Plan, Position, copy_of, is_tried, kinds_of};
 use std::alloc::{AllocError, Global};
+
+/// What a search of all orders came to.
+#[derive(Drop)]
+pub struct Explored {
+    /// How many states were met, equal ones counted once.
+    pub states: usize,
+    /// How many steps lead from one of them to another, of those that were looked at.
+    pub steps: usize,
+    /// How many of those that were looked at hang.
+    pub hangs: usize,
+    pub verdict: OrderVerdict,
+}
+
+/// Whether an order hangs.
+#[derive(Drop)]
+pub enum OrderVerdict {
+    /// An order that hangs, by the lanes that go: no shorter one hangs. And since when a wait was lost, where all states were met.
+    Hangs { lanes: Vec<u32>, loss: Option<Loss> },
+    /// No order hangs.
+    None,
+    /// The bound was met, and no order of at most `level` steps hangs.
+    Met { level: usize },
+}
+
+/// An order after which a thread's wait ends in no order of what is left: no shorter one loses a wait.
+#[derive(Drop)]
+pub struct Loss {
+    pub lanes: Vec<u32>,
+    pub thread: u32,
+}
 
 /// Who learns how far the search is.
 pub trait Watcher {

@@ -5,8 +5,9 @@ use Rattle.std.proofs.lemmas.Bool.Decides.{nat_tests}
 use Rattle.nt_calls.specs.State.{State}
 use Rattle.nt_devices.specs.Device.{Writing, one_more, Says}
 use Rattle.nt_look.specs.Orders.{Plan, Point, Goes, steps}
-use Rattle.nt_explore.specs.Search.{beginning, AreMetInTurn, IsUnderWay, Learns, TellsSearch}
-use Rattle.nt_explore.specs.declared.explored.Explored.{Explored}
+use Rattle.nt_explore.specs.Search.{AreMetInTurn, IsUnderWay, Learns, TellsSearch}
+use Rattle.nt_lanes.specs.Lanes.{beginning}
+use Rattle.nt_explore.specs.declared.search.Explored.{Explored}
 use Rattle.nt_explore.proofs.Ways.{begins_wide}
 use Rattle.nt_explore.proofs.Walks.{deeper, goes_wide, start_low}
 use Rattle.nt_orders.specs.Ending.{EndsEarly, IsCutOff, IsSearched, TellsOrdersFault}

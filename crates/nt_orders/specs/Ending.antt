@@ -3,10 +3,11 @@ use Rattle.std.specs.Prelude.{◌≡◌, ◌⊎◌, ◌&&◌, ◌==◌, ℕ, Boo
 use Rattle.std.specs.Io.KnownBytes.{Keeps}
 use Rattle.nt_devices.specs.Device.{Reading, Says, Writing, one_more}
 use Rattle.nt_calls.specs.State.{State}
-use Rattle.nt_explore.specs.Search.{IsUnderWay, TellsSearch, TellsVerdict, beginning}
-use Rattle.nt_explore.specs.declared.explored.Explored.{Explored}
-use Rattle.nt_explore.specs.declared.explored.OrderVerdict.{OrderVerdict}
-use Rattle.nt_explore.specs.declared.explored.OrderVerdict.TheVariants as verdict
+use Rattle.nt_explore.specs.Search.{IsUnderWay, TellsSearch, TellsVerdict}
+use Rattle.nt_lanes.specs.Lanes.{beginning}
+use Rattle.nt_explore.specs.declared.search.Explored.{Explored}
+use Rattle.nt_explore.specs.declared.search.OrderVerdict.{OrderVerdict}
+use Rattle.nt_explore.specs.declared.search.OrderVerdict.TheVariants as verdict
 use Rattle.nt_script.specs.Running.{Has}
 use Rattle.nt_lines.specs.Lines.{lines_of}
 use Rattle.nt_hangs.specs.Ending.{SaysMemory, Shows}

@@ -11,7 +11,7 @@ use Rattle.nt_script.specs.declared.fault.RunFault.TheVariants as run
 use Rattle.nt_grammar.specs.declared.parser.Statement.{Statement}
 use Rattle.nt_hangs.specs.Steps.{LineHasFault}
 use Rattle.nt_hangs.specs.Watching.{seen_of}
-use Rattle.nt_explore.specs.Search.{asked}
+use Rattle.nt_lanes.specs.Lanes.{asked}
 use Rattle.nt_orders.specs.declared.fault.OrdersFault.{OrdersFault}
 use Rattle.nt_orders.specs.declared.fault.OrdersFault.TheVariants as orders
 use Rattle.nt_orders.specs.declared.lanes.Line.{Line}

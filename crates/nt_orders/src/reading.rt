@@ -6,7 +6,7 @@ ghost use Rattle.nt_lines.specs.Lines.{lines_of};
 ghost use Rattle.nt_script.specs.Progress.{AreCounted, progress};
 ghost use Rattle.nt_hangs.specs.Steps.{LineHasFault};
 ghost use Rattle.nt_hangs.specs.Watching.{Sees, seen_of};
-ghost use Rattle.nt_explore.specs.Search.{asked};
+ghost use Rattle.nt_lanes.specs.Lanes.{asked};
 ghost use Rattle.nt_script.specs.declared.fault.RunFault.TheVariants as run;
 ghost use Rattle.nt_grammar.specs.declared.fault.ScriptFault.TheVariants.{ThreadsExpected};
 ghost use Rattle.nt_orders.specs.declared.fault.OrdersFault.{OrdersFault};

@@ -2,7 +2,8 @@
 ghost use Rattle.std.specs.Prelude.{◌≡◌, IfOk, OnErr, option_map};
 ghost use Rattle.nt_machine.specs.Dispatcher.{state};
 ghost use Rattle.nt_hangs.specs.Watching.{before_zero};
-ghost use Rattle.nt_explore.specs.Search.{TellsVerdict, beginning};
+ghost use Rattle.nt_explore.specs.Search.{TellsVerdict};
+ghost use Rattle.nt_lanes.specs.Lanes.{beginning};
 ghost use Rattle.nt_orders.specs.Ending.{verdict_code, order_of, IsCutOff, IsSearched, IsOrdersOutcome};
 ghost use Rattle.nt_orders.specs.Reading.{lanes_of};
 

@@ -3,7 +3,7 @@ use Rattle.std.proofs.lemmas.Bool.{false≢true}
 use Rattle.nt_machine.specs.Dispatcher.{state}
 use Rattle.nt_look.specs.Hangs.{IsStuck, IsGreatestKnot, unmarked}
 use Rattle.nt_look.specs.Orders.{goes_on}
-use Rattle.nt_explore.specs.Walk.{point_at}
+use Rattle.nt_lanes.specs.Lanes.{point_at}
 use Rattle.nt_explore.proofs.Hung.{waiting_known, someone_waits, hangs_stuck, hangs_knot, told_hangs, all_agree, decided}
 use Rattle.nt_explore.proofs.hanging.hangs.Goals as goal
 

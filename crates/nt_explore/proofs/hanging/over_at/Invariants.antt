@@ -1,7 +1,7 @@
 use Rattle.std.proofs.Common.{◌≡◌, ◌<◌, ℕ, not, length}
 use Rattle.nt_look.specs.Hangs.{marked}
 use Rattle.nt_look.specs.Orders.{goes_on}
-use Rattle.nt_explore.specs.Walk.{point_at}
+use Rattle.nt_lanes.specs.Lanes.{point_at}
 use Rattle.nt_explore.proofs.hanging.over_at.Given as goal
 
 abbrev pub invariant-loop-thread : goal.invariant-loop-thread

@@ -1,5 +1,5 @@
 use Rattle.std.proofs.Common.{subst, Some, arith, refl, length}
-use Rattle.nt_explore.specs.Search.{beginning}
+use Rattle.nt_lanes.specs.Lanes.{beginning}
 use Rattle.nt_explore.specs.Levels.{IsFirstLoss}
 use Rattle.nt_explore.proofs.Levels.{loss_there, never_none}
 use Rattle.nt_explore.proofs.loss.first_loss.Goals as goal

@@ -1,6 +1,6 @@
 use Rattle.std.proofs.Common.{◌≡◌, ◌<◌, ◌+◌, ◌++◌, [], ◌∷◌, ℕ, List, length, take, drop, ap, sym, subst, ◌∙◌, arith, Vec}
 use Rattle.nt_explore.specs.declared.met.Visit.{Visit}
-use Rattle.nt_explore.specs.Slots.{IsTable, PutsIn}
+use Rattle.nt_explore.specs.Walk.{IsTable, PutsIn}
 use Rattle.nt_explore.proofs.Slots.{table_more, puts_length, written}
 use Rattle.nt_explore.proofs.met.add.Goals as goal
 

@@ -1,6 +1,6 @@
 use Rattle.std.proofs.Common.{ℕ, List, subst, sym}
 use Rattle.nt_machine.specs.Dispatcher.{state}
-use Rattle.nt_explore.specs.Search.{beginning}
+use Rattle.nt_lanes.specs.Lanes.{beginning}
 use Rattle.nt_explore.specs.Walk.{Arrives}
 use Rattle.nt_explore.proofs.Ways.{if_ok}
 use Rattle.nt_explore.proofs.met.again.Goals as goal

@@ -2,8 +2,8 @@ use Rattle.std.proofs.Common.{◌≡◌, ◌∙◌, arith, subst, ℕ}
 use Rattle.std.specs.Prelude.{drop}
 use Rattle.nt_machine.specs.Dispatcher.{state}
 use Rattle.nt_look.specs.Orders.{Point}
-use Rattle.nt_explore.specs.Search.{beginning}
-use Rattle.nt_explore.specs.Walk.{point_at, Arrives}
+use Rattle.nt_lanes.specs.Lanes.{beginning, point_at}
+use Rattle.nt_explore.specs.Walk.{Arrives}
 use Rattle.nt_explore.proofs.Ways.{far_back, far_end}
 use Rattle.nt_explore.proofs.met.at_end.Goals as goal
 

@@ -1,7 +1,7 @@
 use Rattle.std.proofs.Common.{ℕ, ◌-◌, get_or, ap, sym, ◌∙◌, subst, inl, inr, arith}
 use Rattle.nt_machine.specs.Dispatcher.{state}
-use Rattle.nt_explore.specs.Search.{beginning}
-use Rattle.nt_explore.specs.Walk.{point_at, IsOther}
+use Rattle.nt_lanes.specs.Lanes.{beginning, point_at}
+use Rattle.nt_explore.specs.Walk.{IsOther}
 use Rattle.nt_explore.proofs.Slots.{past_more, never_found}
 use Rattle.nt_explore.proofs.met.find.Goals as goal
 

@@ -1,6 +1,5 @@
 use Rattle.nt_machine.specs.Dispatcher.{state}
-use Rattle.nt_explore.specs.Search.{beginning}
-use Rattle.nt_explore.specs.Walk.{point_at}
+use Rattle.nt_lanes.specs.Lanes.{beginning, point_at}
 use Rattle.nt_explore.proofs.Slots.{LooksPast}
 use Rattle.nt_explore.proofs.met.find.Given as goal
 

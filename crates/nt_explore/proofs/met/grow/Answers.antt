@@ -1,6 +1,6 @@
 use Rattle.std.proofs.Common.{List, length, ap, subst, arith}
 use Rattle.nt_explore.specs.declared.met.Visit.{Visit}
-use Rattle.nt_explore.specs.Slots.{AreInSlots}
+use Rattle.nt_explore.specs.Walk.{AreInSlots}
 use Rattle.nt_explore.proofs.met.grow.Goals as goal
 
 pub returns-clause-table : goal.returns-clause-table

@@ -1,5 +1,5 @@
 use Rattle.std.proofs.Common.{◌≡◌, length}
-use Rattle.nt_explore.specs.Slots.{NoneFree}
+use Rattle.nt_explore.specs.Walk.{NoneFree}
 use Rattle.nt_explore.proofs.met.put.Given as goal
 
 abbrev pub invariant-loop-step : goal.invariant-loop-step

@@ -1,7 +1,6 @@
 use Rattle.std.proofs.Common.{◌≡◌, ◌+◌, ◌++◌, ℕ, List, length, replicate, take, drop, ap, sym, subst, ◌∙◌, arith}
 use Rattle.std.proofs.lemmas.List.{length-replicate}
-use Rattle.nt_explore.specs.Walk.{hash_at}
-use Rattle.nt_explore.specs.Slots.{used, AreInSlots}
+use Rattle.nt_explore.specs.Walk.{hash_at, used, AreInSlots}
 use Rattle.nt_explore.proofs.Slots.{used_none, in_slots_none, in_slots_more, puts_length, puts_used, written}
 use Rattle.nt_explore.proofs.met.slots_of.Goals as goal
 

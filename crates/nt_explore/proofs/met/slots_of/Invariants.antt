@@ -1,5 +1,5 @@
 use Rattle.std.proofs.Common.{◌≡◌, ◌≤◌, length}
-use Rattle.nt_explore.specs.Slots.{used, AreInSlots}
+use Rattle.nt_explore.specs.Walk.{used, AreInSlots}
 use Rattle.nt_explore.proofs.met.slots_of.Given as goal
 
 abbrev pub invariant-loop-index : goal.invariant-loop-index

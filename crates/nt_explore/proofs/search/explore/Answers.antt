@@ -1,9 +1,10 @@
 use Rattle.std.proofs.Common.{◌≡◌, ◌<◌, ◌∙◌, ◌≤◌, ◌+◌, ℕ, arith, List, [], length, subst, sym, ap, refl, None, inl, inr, ◌⊎◌}
 use Rattle.nt_machine.specs.Dispatcher.{state}
 use Rattle.nt_explore.specs.declared.met.Visit.{Visit}
-use Rattle.nt_explore.specs.Search.{beginning, CanGo, CountsTo, SumsTo}
+use Rattle.nt_explore.specs.Search.{CanGo, CountsTo, SumsTo}
+use Rattle.nt_lanes.specs.Lanes.{beginning}
 use Rattle.nt_explore.specs.Levels.{IsSearch, IsCounted, LiesAt, then_met}
-use Rattle.nt_explore.proofs.Adding.{kinds_none}
+use Rattle.nt_lanes.proofs.Adding.{kinds_none}
 use Rattle.nt_explore.proofs.Levels.{search_begins}
 use Rattle.nt_explore.proofs.Counting.{left_more, left_none, learns_more, met_begins, on_refusal, tells_bound, under_way}
 use Rattle.std.proofs.lemmas.Bool.Decides.{nat_tests}

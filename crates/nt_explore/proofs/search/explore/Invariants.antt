@@ -1,7 +1,8 @@
 use Rattle.std.proofs.Common.{ℕ, ◌≤◌, ◌<◌, ◌-◌, ◌+◌, length}
 use Rattle.nt_machine.specs.Dispatcher.{state}
-use Rattle.nt_explore.specs.Search.{beginning, Learns}
-use Rattle.nt_explore.specs.Slots.{IsTable}
+use Rattle.nt_explore.specs.Search.{Learns}
+use Rattle.nt_lanes.specs.Lanes.{beginning}
+use Rattle.nt_explore.specs.Walk.{IsTable}
 use Rattle.nt_explore.specs.Levels.{IsCounted}
 use Rattle.nt_explore.proofs.Counting.{HasLeft}
 use Rattle.nt_explore.proofs.search.explore.Given as goal

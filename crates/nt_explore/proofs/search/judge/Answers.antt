@@ -1,6 +1,6 @@
 use Rattle.std.proofs.Common.{subst, sym, ℕ}
 use Rattle.std.specs.Prelude.{Option}
-use Rattle.nt_explore.specs.Search.{beginning}
+use Rattle.nt_lanes.specs.Lanes.{beginning}
 use Rattle.nt_explore.specs.Levels.{IsSearch, LiesAt}
 use Rattle.nt_explore.proofs.Ways.{if_ok}
 use Rattle.nt_explore.proofs.search.judge.Goals as goal

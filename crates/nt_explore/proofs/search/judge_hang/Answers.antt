@@ -1,5 +1,5 @@
 use Rattle.std.proofs.Common.{Some}
-use Rattle.nt_explore.specs.Search.{beginning}
+use Rattle.nt_lanes.specs.Lanes.{beginning}
 use Rattle.nt_explore.proofs.Levels.{hangs_there}
 use Rattle.nt_explore.proofs.search.judge_hang.Goals as goal
 

@@ -1,5 +1,5 @@
 use Rattle.std.proofs.Common.{◌<◌, arith, length, ◌≡◌, ◌+◌, ◌-◌, refl}
-use Rattle.nt_explore.specs.Search.{beginning}
+use Rattle.nt_lanes.specs.Lanes.{beginning}
 use Rattle.nt_explore.proofs.Levels.{none_there, bound_there}
 use Rattle.nt_explore.proofs.search.judge_rest.Goals as goal
 

@@ -2,13 +2,12 @@ use Rattle.std.proofs.Common.{◌≡◌, ℕ, true, List, subst, sym, refl, arit
 use Rattle.std.specs.Prelude.{◌↔◌}
 use Rattle.nt_machine.specs.Dispatcher.{state}
 use Rattle.nt_explore.specs.declared.met.Visit.{Visit}
-use Rattle.nt_explore.specs.Search.{beginning}
-use Rattle.nt_explore.specs.Walk.{point_at, IsWalk}
+use Rattle.nt_lanes.specs.Lanes.{beginning, point_at, AreKinds, is_tried}
+use Rattle.nt_explore.specs.Walk.{IsWalk}
 use Rattle.nt_look.proofs.Searching.{for_good}
 use Rattle.nt_look.specs.Orders.{Point, Hangs}
 use Rattle.nt_apart.specs.Fewer.{IsLowestChosen}
-use Rattle.nt_explore.specs.Lanes.{AreKinds, is_tried}
-use Rattle.nt_explore.proofs.Bare.{lowest_tried}
+use Rattle.nt_lanes.proofs.Bare.{lowest_tried}
 use Rattle.nt_explore.proofs.Levels.{search_more}
 use Rattle.nt_explore.proofs.Counting.{met_more}
 use Rattle.nt_explore.proofs.search.look_at.Goals as goal

@@ -1,5 +1,5 @@
 use Rattle.std.proofs.Common.{◌≡◌, Some, arith, length, subst, ℕ}
-use Rattle.nt_explore.specs.Search.{beginning}
+use Rattle.nt_lanes.specs.Lanes.{beginning}
 use Rattle.nt_explore.specs.Levels.{IsSearch}
 use Rattle.nt_explore.proofs.Ways.{if_ok}
 use Rattle.nt_explore.proofs.search.loss_at.Goals as goal

@@ -1,6 +1,5 @@
 use Rattle.nt_machine.specs.Dispatcher.{state}
-use Rattle.nt_explore.specs.Search.{beginning}
-use Rattle.nt_explore.specs.Walk.{point_of}
+use Rattle.nt_lanes.specs.Lanes.{beginning, point_of}
 use Rattle.nt_explore.proofs.Walks.{lane_met}
 use Rattle.nt_explore.proofs.Ways.{on_ok}
 use Rattle.nt_explore.proofs.search.meet_next.Goals as goal

@@ -1,4 +1,4 @@
-use Rattle.nt_explore.specs.Walk.{point_at}
+use Rattle.nt_lanes.specs.Lanes.{point_at}
 use Rattle.nt_explore.proofs.Walks.{never_went}
 use Rattle.nt_explore.proofs.search.next_of.Goals as goal
 

@@ -1,8 +1,7 @@
 use Rattle.std.proofs.Common.{ap}
 use Rattle.std.specs.Option.{option_map}
 use Rattle.nt_machine.specs.Dispatcher.{state}
-use Rattle.nt_explore.specs.Search.{beginning}
-use Rattle.nt_explore.specs.Walk.{point_at, point_of}
+use Rattle.nt_lanes.specs.Lanes.{beginning, point_at, point_of}
 use Rattle.nt_explore.proofs.Walks.{lane_never, lane_leads}
 use Rattle.nt_explore.proofs.Ways.{on_ok}
 use Rattle.nt_explore.proofs.search.try_lane.Goals as goal

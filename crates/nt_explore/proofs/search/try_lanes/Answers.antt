@@ -1,7 +1,7 @@
 use Rattle.std.proofs.Common.{◌≡◌, ℕ, arith, length, subst}
 use Rattle.nt_machine.specs.Dispatcher.{state}
-use Rattle.nt_explore.specs.Search.{beginning}
-use Rattle.nt_explore.specs.Walk.{point_at, Tries}
+use Rattle.nt_lanes.specs.Lanes.{beginning, point_at}
+use Rattle.nt_explore.specs.Walk.{Tries}
 use Rattle.nt_explore.proofs.Walks.{tries_none, tries_more}
 use Rattle.nt_explore.proofs.search.try_lanes.Goals as goal
 

@@ -1,9 +1,8 @@
 use Rattle.std.proofs.Common.{◌≡◌, ◌≤◌, ℕ, length}
 use Rattle.nt_machine.specs.Dispatcher.{state}
 use Rattle.nt_look.specs.Orders.{Point}
-use Rattle.nt_explore.specs.Search.{beginning}
-use Rattle.nt_explore.specs.Walk.{point_at, IsWalk, Tries}
-use Rattle.nt_explore.specs.Slots.{IsTable}
+use Rattle.nt_lanes.specs.Lanes.{beginning, point_at}
+use Rattle.nt_explore.specs.Walk.{IsWalk, Tries, IsTable}
 use Rattle.nt_explore.proofs.search.try_lanes.Given as goal
 
 abbrev pub invariant-loop-lane : goal.invariant-loop-lane

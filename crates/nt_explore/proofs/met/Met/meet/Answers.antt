@@ -2,9 +2,8 @@ use Rattle.std.proofs.Common.{List, ℕ, length, sym, subst, ap, ◌∙◌}
 use Rattle.nt_machine.specs.Dispatcher.{state}
 use Rattle.nt_explore.specs.declared.met.Visit.{Visit}
 use Rattle.nt_explore.specs.Hash.{hash_of}
-use Rattle.nt_explore.specs.Slots.{AreInSlots}
-use Rattle.nt_explore.specs.Search.{beginning}
-use Rattle.nt_explore.specs.Walk.{point_at}
+use Rattle.nt_explore.specs.Walk.{AreInSlots}
+use Rattle.nt_lanes.specs.Lanes.{beginning, point_at}
 use Rattle.nt_explore.proofs.Walks.{meets_added, meets_there, found_none, start_low}
 use Rattle.nt_explore.proofs.met.Met.meet.Goals as goal
 

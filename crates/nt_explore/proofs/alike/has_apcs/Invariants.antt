@@ -1,7 +1,0 @@
-use Rattle.std.proofs.Common.{◌≡◌}
-use Rattle.nt_machine.specs.Dispatcher.{state}
-use Rattle.nt_explore.specs.Lanes.{any_below, has_apc}
-use Rattle.nt_explore.proofs.alike.has_apcs.Given as goal
-
-abbrev pub invariant-loop-thread : goal.invariant-loop-thread
-invariant-loop-thread l = l.found ≡ any_below (has_apc (state l.core)) l.thread

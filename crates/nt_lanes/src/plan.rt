@@ -1,0 +1,123 @@
+//! What each thread is to call, one after another.
+ghost use Rattle.std.specs.Prelude.{true, false, ◌≡◌, ◌≤◌, ◌<◌, ◌^◌, ◌+◌, ◌++◌, ◌∷◌, [], length, replicate, slice_get, slice_set, IsSome, IfOk, OnOk, OnErr};
+ghost use Rattle.std.specs.Option.{option_copied, option_map};
+ghost use Rattle.nt_look.specs.Orders.{asks};
+ghost use Rattle.nt_lanes.specs.Lanes.{asked, IsUnnamed, plan_of};
+
+use crate::twins::{are_same, lanes_name};
+use nt_calls::Call;
+use nt_status::{Handle, Moment};
+use std::alloc::{AllocError, Global};
+use std::marker::Model;
+
+/// What a lane does next.
+#[derive(Debug, Drop)]
+pub enum Ask {
+    /// Its thread makes this call.
+    Call(Call),
+    /// All moments up to this one pass, counted in 100 ns.
+    Tick(Moment),
+}
+
+/// For each thread what it is to do, in order; and after the threads' lanes one for the ticks.
+#[derive(Drop)]
+pub struct Plan {
+    lanes: Vec<Vec<Ask>>,
+}
+
+impl Model for Plan {
+    ghost use Rattle.nt_look.specs.Orders as orders;
+    ghost use Rattle.nt_lanes.specs.Lanes.{plan_of};
+
+    ghost Value = { orders.Plan };
+
+    ghost view = { λ p. plan_of p.lanes.items };
+
+    ghost use Rattle.std.specs.Prelude.{◌≤◌, ◌^◌, length};
+
+    ghost invariant = { λ p. length p.lanes.items ≤ 2 ^ 32 };
+}
+
+/// `count` lanes in which nothing is done.
+fn empty_lanes(alloc: Global, count: usize) -> Result<Vec<Vec<Ask>>, AllocError>
+    ensures { IfOk result (λ lanes. plan_of lanes.items ≡ replicate count []) }
+{
+    let mut lanes = Vec::with_capacity(alloc, count)?;
+    for _ in 0..count {
+        lanes.push_reserved(Vec::new(alloc));
+    }
+    Ok(lanes)
+}
+
+/// What is done at this position; none at the end.
+fn ask_in(asks: &[Ask], position: usize) -> Option<&Ask>
+    ensures ask { option_copied result ≡ slice_get asks.now position }
+    ensures few { IsSome result → position + 1 < 2 ^ 64 }
+{
+    let count = asks.len();
+    if position >= count {
+        return None;
+    }
+    asks.get(position)
+}
+
+impl Plan {
+    /// A plan for `threads` threads, which do nothing yet.
+    pub fn new(alloc: Global, threads: u32) -> Result<Plan, AllocError>
+        ensures { IfOk result (λ plan. plan ≡ replicate (threads + 1) []) }
+    {
+        let lanes = empty_lanes(alloc, threads as usize + 1)?;
+        Ok(Plan { lanes })
+    }
+
+    /// The lane does this too, last. Thread t's lane has number t, and the lane of the ticks the number of threads. What no lane has the
+    /// number of is let go.
+    pub fn add(&mut self, lane: u32, ask: Ask) -> Result<(), AllocError>
+        ensures ok { OnOk result (self.new ≡ slice_set self.old lane (asks self.old lane ++ asked ask ∷ [])) }
+        ensures err { OnErr result (self.new ≡ self.old) }
+        ensures beyond { length self.old ≤ lane → result ≡ Ok tt }
+    {
+        if lane as usize >= self.lanes.len() {
+            return Ok(());
+        }
+        self.lanes[lane as usize].push(ask)?;
+        Ok(())
+    }
+
+    /// How many lanes there are: one more than threads.
+    pub fn lanes(&self) -> usize
+        ensures count { result ≡ length self.now }
+        ensures few { result ≤ 2 ^ 32 }
+    {
+        self.lanes.len()
+    }
+
+    /// What the lane does at this position; none where it is at its end.
+    pub fn ask(&self, lane: u32, position: usize) -> Option<&Ask>
+        ensures ask { option_map asked (option_copied result) ≡ slice_get (asks self.now lane) position }
+        ensures few { IsSome result → position + 1 < 2 ^ 64 }
+    {
+        let asks = self.lanes.get(lane as usize)?;
+        ask_in(asks, position)
+    }
+
+    /// Whether both lanes have the same to do.
+    pub(crate) fn are_same(&self, a: u32, b: u32) -> bool
+        ensures { result ≡ true → asks self.now b ≡ asks self.now a }
+    {
+        match self.lanes.get(a as usize) {
+            Some(asks) => match self.lanes.get(b as usize) {
+                Some(others) => are_same(others, asks),
+                None => false,
+            },
+            None => false,
+        }
+    }
+
+    /// Whether a call names the thread's handle.
+    pub(crate) fn names(&self, thread: u32) -> bool
+        ensures { result ≡ false → IsUnnamed self.now thread }
+    {
+        lanes_name(&self.lanes, Handle::new(thread))
+    }
+}

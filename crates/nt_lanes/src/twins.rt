@@ -1,0 +1,231 @@
+//! Which lanes have the same to do.
+ghost use Rattle.std.specs.Prelude.{◌≡◌, ◌≢◌, ◌==◌, true, map, IfOk};
+ghost use Rattle.std.specs.List.{list_any};
+ghost use Rattle.nt_machine.specs.Dispatcher.{state};
+ghost use Rattle.nt_apart.specs.Fewer.{handles_of};
+ghost use Rattle.nt_lanes.specs.Lanes.{asked, names_handle, AreTwins, AreKinds};
+
+use crate::plan::{Ask, Plan};
+use nt_calls::{Act, Call, WaitCall};
+use nt_core::Core;
+use nt_status::Handle;
+use std::alloc::{AllocError, Global};
+
+/// Whether both name the same handles.
+fn are_same_handles(handles: &[Handle], others: &[Handle]) -> bool
+    ensures { result ≡ true → handles.now ≡ others.now }
+{
+    if handles.len() != others.len() {
+        return false;
+    }
+    for i in 0..handles.len() {
+        if handles[i].get() != others[i].get() {
+            return false;
+        }
+    }
+    true
+}
+
+/// Whether both ask for the same wait.
+fn is_same_wait(a: &WaitCall, b: &WaitCall) -> bool
+    ensures { result ≡ true → a.now ≡ b.now }
+{
+    match a {
+        WaitCall::Objects { all, mode, handles } => match b {
+            WaitCall::Objects {
+                all: other_all,
+                mode: other_mode,
+                handles: others,
+            } => {
+                if *all != *other_all || *mode != *other_mode {
+                    return false;
+                }
+                are_same_handles(handles.as_slice(), others.as_slice())
+            }
+            _ => false,
+        },
+        WaitCall::Sleep(mode) => match b {
+            WaitCall::Sleep(other) => *mode == *other,
+            _ => false,
+        },
+        WaitCall::Swap {
+            signal,
+            object,
+            mode,
+        } => match b {
+            WaitCall::Swap {
+                signal: other_signal,
+                object: other_object,
+                mode: other_mode,
+            } => *signal == *other_signal && *object == *other_object && *mode == *other_mode,
+            _ => false,
+        },
+    }
+}
+
+/// Whether both are the same call.
+fn is_same_call(a: &Call, b: &Call) -> bool
+    ensures { result ≡ true → a.now ≡ b.now }
+{
+    match a {
+        Call::Act(act) => match b {
+            Call::Act(other) => *act == *other,
+            _ => false,
+        },
+        Call::Wait(wait) => match b {
+            Call::Wait(other) => is_same_wait(wait, other),
+            _ => false,
+        },
+        Call::Exit => match b {
+            Call::Exit => true,
+            _ => false,
+        },
+    }
+}
+
+/// Whether both ask for the same.
+fn is_same_ask(a: &Ask, b: &Ask) -> bool
+    ensures { result ≡ true → asked a.now ≡ asked b.now }
+{
+    match a {
+        Ask::Call(call) => match b {
+            Ask::Call(other) => is_same_call(call, other),
+            _ => false,
+        },
+        Ask::Tick(moment) => match b {
+            Ask::Tick(other) => *moment == *other,
+            _ => false,
+        },
+    }
+}
+
+/// Whether both lines ask for the same.
+pub fn are_same(a: &[Ask], b: &[Ask]) -> bool
+    ensures { result ≡ true → map asked a.now ≡ map asked b.now }
+{
+    if a.len() != b.len() {
+        return false;
+    }
+    for i in 0..a.len() {
+        if !is_same_ask(&a[i], &b[i]) {
+            return false;
+        }
+    }
+    true
+}
+
+/// Whether the act names this handle.
+fn act_names(act: &Act, handle: Handle) -> bool
+    ensures { result ≡ list_any (λ named. named == handle) (handles_of (Call.Act act.now)) }
+{
+    match act {
+        Act::SetEvent(named) => *named == handle,
+        Act::ResetEvent(named) => *named == handle,
+        Act::PulseEvent(named) => *named == handle,
+        Act::ReleaseSemaphore {
+            semaphore,
+            count: _,
+        } => *semaphore == handle,
+        Act::ReleaseMutex(named) => *named == handle,
+        Act::SetTimer {
+            timer,
+            due: _,
+            period: _,
+            routine: _,
+        } => *timer == handle,
+        Act::CancelTimer(named) => *named == handle,
+        Act::QueueApc {
+            thread,
+            routine: _,
+            arg: _,
+        } => *thread == handle,
+        Act::Duplicate {
+            handle: named,
+            access: _,
+        } => *named == handle,
+        Act::Close(named) => *named == handle,
+        _ => false,
+    }
+}
+
+/// Whether the wait names this handle.
+fn wait_names(wait: &WaitCall, handle: Handle) -> bool
+    ensures { result ≡ list_any (λ named. named == handle) (handles_of (Call.Wait wait.now)) }
+{
+    match wait {
+        WaitCall::Objects {
+            handles,
+            all: _,
+            mode: _,
+        } => handles.as_slice().iter().any(|named| *named == handle),
+        WaitCall::Sleep(_) => false,
+        WaitCall::Swap {
+            signal,
+            object,
+            mode: _,
+        } => *signal == handle || *object == handle,
+    }
+}
+
+/// Whether what is asked names this handle.
+fn ask_names(ask: &Ask, handle: Handle) -> bool
+    ensures { result ≡ names_handle handle (asked ask.now) }
+{
+    match ask {
+        Ask::Call(Call::Act(act)) => act_names(act, handle),
+        Ask::Call(Call::Wait(wait)) => wait_names(wait, handle),
+        Ask::Call(Call::Exit) => false,
+        Ask::Tick(_) => false,
+    }
+}
+
+/// Whether one of these names this handle.
+fn one_names(asks: &[Ask], handle: Handle) -> bool
+    ensures { result ≡ list_any (λ ask. names_handle handle (asked ask)) asks.now }
+{
+    asks.iter().any(|ask| ask_names(ask, handle))
+}
+
+/// Whether both have the same to do, and no call names the handle of one of the two.
+fn is_twin(plan: &Plan, lower: u32, lane: u32) -> bool
+    ensures { result ≡ true → AreTwins plan.now lower lane }
+{
+    if !plan.are_same(lower, lane) || plan.names(lower) {
+        return false;
+    }
+    !plan.names(lane)
+}
+
+/// The lowest twin of the lane; the lane itself if it has none.
+fn twin_of(plan: &Plan, lane: u32) -> u32
+    ensures { result ≢ lane → AreTwins plan.now result lane }
+{
+    for lower in 0..lane {
+        if is_twin(plan, lower, lane) {
+            return lower;
+        }
+    }
+    lane
+}
+
+/// Whether one of the lanes names this handle.
+pub fn lanes_name(lanes: &[Vec<Ask>], handle: Handle) -> bool
+    ensures { result ≡ list_any (λ lane. list_any (λ ask. names_handle handle (asked ask)) lane.items) lanes.now }
+{
+    lanes.iter().any(|lane| one_names(lane, handle))
+}
+
+/// The kind of each thread's lane.
+#[tactic(auto, using(crate::proofs::Adding::kinds_told, crate::proofs::Adding::kinds_none))]
+pub fn kinds_of(alloc: Global, plan: &Plan, start: &Core) -> Result<Vec<u32>, AllocError>
+    ensures { IfOk result (λ kinds. AreKinds plan.now (state start.now).threads kinds.items) }
+{
+    let mut kinds = Vec::new(alloc);
+    if plan.lanes() < start.threads() as usize {
+        return Ok(kinds);
+    }
+    for lane in 0..start.threads() {
+        kinds.push(twin_of(plan, lane))?;
+    }
+    Ok(kinds)
+}
