@@ -191,7 +191,7 @@ pub on_refusal : {X E so : Type 0} (r : Result X E) → so → OnErr r so
 on_refusal (Ok x) it = tt
 on_refusal (Err e) it = it
 
-pub under_way : (plan : Plan) (kinds : List ℕ) (start : Point) (most : ℕ) (point : ℕ → Point) (met : ℕ → ℕ) (looked : ℕ) → AreKinds plan start.state.threads kinds → AreMetInTurn plan kinds start point met looked → HasLeft most met looked → IsUnderWay plan start most met looked
+pub under_way : (plan : Plan) (kinds : List ℕ) (start : Point) (most : ℕ) (point : ℕ → Point) (met : ℕ → ℕ) (looked : ℕ) → (0 < looked → AreKinds plan start.state.threads kinds) → AreMetInTurn plan kinds start point met looked → HasLeft most met looked → IsUnderWay plan start most met looked
 under_way plan kinds start most point met looked alike turns left = record { kinds = kinds; alike = alike; point = point; turns = turns; left = left.0; few = left.1 }
 
 pub left_none : (most : ℕ) (met : ℕ → ℕ) → HasLeft most met 0

@@ -52,7 +52,7 @@ pub record EndsAfter (most : ℕ) (met : ℕ → ℕ) (looked : ℕ) : Type 0 wh
 -- a search on its way: it looked at this many points, each met before, and went on only while no more than `most` were met
 pub record IsUnderWay (plan : Plan) (start : Point) (most : ℕ) (met : ℕ → ℕ) (looked : ℕ) : Type 0 where
   pub kinds : List ℕ
-  pub alike : AreKinds plan start.state.threads kinds
+  pub alike : 0 < looked → AreKinds plan start.state.threads kinds
   pub point : ℕ → Point
   pub turns : AreMetInTurn plan kinds start point met looked
   pub left : (i : ℕ) → i < looked → i < met i

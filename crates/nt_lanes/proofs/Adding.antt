@@ -1,20 +1,21 @@
 -- What lanes of a plan do: one thing more, the same, and which handles they name.
-use Rattle.std.proofs.Common.{◌≡◌, ◌≢◌, ◌<◌, ◌≤◌, ◌⊎◌, inl, inr, ℕ, zero, suc, Bool, true, false, List, [], ◌∷◌, ◌++◌, length, map, set, get_or, refl, sym, ap, ◌∙◌, subst, arith, Some, Contains, eqb, ltb}
-use Rattle.std.specs.Prelude.{Vec, Result, Ok, Err, OnErr, slice_get, option_map}
+use Rattle.std.proofs.Common.{◌≡◌, ◌≢◌, ◌<◌, ◌≤◌, ◌+◌, ◌⊎◌, inl, inr, ℕ, zero, suc, Bool, true, false, ◌||◌, List, [], ◌∷◌, ◌++◌, length, map, set, get_or, refl, sym, ap, ◌∙◌, subst, arith, Some, Contains, ltb}
+use Rattle.std.specs.Prelude.{◌==◌, Vec, Result, Ok, Err, OnErr, MatchBool, ◌↔◌, slice_get, slice_index_or, option_map}
 use Rattle.std.specs.List.{list_any}
 use Rattle.std.proofs.lemmas.Bool.{false≢true}
 use Rattle.std.proofs.lemmas.Bool.Decides.{nat_tests}
-use Rattle.nt_status.proofs.Lists.{contains_none, contains_cases}
+use Rattle.nt_status.proofs.Lists.{contains_none, contains_first, contains_later, contains_cases}
 use Rattle.nt_calls.specs.declared.call.Call.{Call}
 use Rattle.nt_apart.specs.Fewer.{handles_of}
 use Rattle.nt_apart.proofs.Renaming.{test_member}
 use Rattle.std.specs.declared.alloc.Global.{Global}
-use Rattle.std.proofs.lemmas.List.{map-set, map-append, get_or-map, get_or_append_left, get_or_push, get_or_past, length_push}
+use Rattle.std.proofs.lemmas.List.{map-set, map-append, get_or-map, get_or_append_left, get_or_push, length_push}
+use Rattle.std.proofs.lemmas.Option.{slice_get-map}
 use Rattle.std.proofs.Math.Seq.{map-set_same}
 use Rattle.nt_look.specs.Orders as orders
-use Rattle.nt_look.specs.Orders.{asks, Calls, Plan}
+use Rattle.nt_look.specs.Orders.{asks, Calls, Passes, Plan}
 use Rattle.nt_lanes.specs.declared.plan.Ask.{Ask}
-use Rattle.nt_lanes.specs.Lanes.{plan_of, asked, IsUnnamed, AreKinds, AreTwins, kind_of, names_handle}
+use Rattle.nt_lanes.specs.Lanes.{plan_of, asked, IsUnnamed, AreKinds, IsKind, AreTwins, kind_of, names_handle}
 use Rattle.nt_lanes.proofs.Bare.{or_first, or_second}
 
 lane_of : Vec Ask Global → List orders.Ask
@@ -46,17 +47,43 @@ are_all f (x ∷ xs) (y ∷ ys) count each =
     let same : f x ≡ f y = (cc) in
     ap (λ (z : _). z ∷ map f xs) same ∙ ap (λ (zs : List _). f y ∷ zs) (are_all f xs ys (omega (arith, count)) (λ k below. each (suc k) (omega (arith, below))))
 
-pub all_equal : (xs ys : List ℕ) → length xs ≡ length ys → ((k : ℕ) → k < length xs → slice_get xs k ≡ slice_get ys k) → xs ≡ ys
-all_equal [] [] count each = refl
-all_equal [] (y ∷ ys) count each = absurd (omega (arith, count))
-all_equal (x ∷ xs) [] count each = absurd (omega (arith, count))
-all_equal (x ∷ xs) (y ∷ ys) count each =
-    let first : Some x ≡ Some y = each 0 (omega arith) in
-    let same : x ≡ y = (cc) in
-    ap (λ (z : ℕ). z ∷ xs) same ∙ ap (λ (zs : List ℕ). y ∷ zs) (all_equal xs ys (omega (arith, count)) (λ k below. each (suc k) (omega (arith, below))))
-
 pub all_same : (xs ys : List Ask) → length xs ≡ length ys → ((k : ℕ) → k < length xs → option_map asked (slice_get xs k) ≡ option_map asked (slice_get ys k)) → map asked xs ≡ map asked ys
 all_same xs ys count each = are_all asked xs ys count each
+
+at_place : (xs : List Ask) (k : ℕ) (x : Ask) → k < length xs → x ≡ slice_index_or xs k x → slice_get xs k ≡ Some x
+at_place [] k x below is = absurd (omega (arith, below))
+at_place (y ∷ ys) zero x below is = ap (λ (z : Ask). Some z) (sym is)
+at_place (y ∷ ys) (suc k) x below is = at_place ys k x (omega (arith, below)) is
+
+-- as far as this place both ask for the same
+abbrev pub SameBelow : (xs ys : List Ask) → ℕ → Type 0
+SameBelow xs ys n = (k : ℕ) → k < n → option_map asked (slice_get xs k) ≡ option_map asked (slice_get ys k)
+
+pub same_below_next : (xs ys : List Ask) (n : ℕ) (x y : Ask) → n < length xs → length xs ≡ length ys → x ≡ slice_index_or xs n x → y ≡ slice_index_or ys n y → asked x ≡ asked y → SameBelow xs ys n → SameBelow xs ys (n + 1)
+same_below_next xs ys n x y below count here there same before k less = go (ltb k n) refl
+  where
+    at : option_map asked (slice_get xs n) ≡ option_map asked (slice_get ys n)
+    at = ap (option_map asked) (at_place xs n x below here) ∙ (ap (λ (z : orders.Ask). Some z) same ∙ sym (ap (option_map asked) (at_place ys n y (omega (arith, below, count)) there)))
+
+    go : (b : Bool) → ltb k n ≡ b → option_map asked (slice_get xs k) ≡ option_map asked (slice_get ys k)
+    go true e = before k (grind (arith, nat_tests, e))
+    go false e =
+        let past : n ≤ k = grind (arith, nat_tests, e) in
+        let last : n ≡ k = omega (arith, past, less) in
+        subst (λ (i : ℕ). option_map asked (slice_get xs i) ≡ option_map asked (slice_get ys i)) last at
+
+-- two that differ at a place
+pub differ_at : (xs ys : List Ask) (n : ℕ) (x y : Ask) → n < length xs → length xs ≡ length ys → x ≡ slice_index_or xs n x → y ≡ slice_index_or ys n y → (asked x ≡ asked y → ⊥) → map asked xs ≡ map asked ys → ⊥
+differ_at xs ys n x y below count here there other same =
+    let one : Some (asked x) ≡ slice_get (map asked xs) n = ap (option_map asked) (sym (at_place xs n x below here)) ∙ sym (slice_get-map asked xs n) in
+    let two : slice_get (map asked ys) n ≡ Some (asked y) = slice_get-map asked ys n ∙ ap (option_map asked) (at_place ys n y (omega (arith, below, count)) there) in
+    let both : Some (asked x) ≡ Some (asked y) = one ∙ (ap (λ (l : List orders.Ask). slice_get l n) same ∙ two) in
+    other (let it : asked x ≡ asked y = (cc) in it)
+
+-- a test that tells
+pub exactly : (P : Type 0) (r : Bool) → MatchBool r P (P → ⊥) → (r ≡ true) ↔ P
+exactly P true is = (λ _. is, λ _. refl)
+exactly P false is = (λ e. absurd (false≢true e), λ p. absurd (is p))
 
 -- ---- which handles are named
 
@@ -81,34 +108,85 @@ none_named [] t none lane call h has named = absurd (contains_none (Calls call) 
 none_named (l ∷ lanes) t none zero call h has named = in_line l.items t (or_first (list_any (λ (ask : Ask). names_handle t (asked ask)) l.items) (list_any (λ (lane : Vec Ask Global). list_any (λ (ask : Ask). names_handle t (asked ask)) lane.items) lanes) none) call h has named
 none_named (l ∷ lanes) t none (suc lane) call h has named = none_named lanes t (or_second (list_any (λ (ask : Ask). names_handle t (asked ask)) l.items) (list_any (λ (lane : Vec Ask Global). list_any (λ (ask : Ask). names_handle t (asked ask)) lane.items) lanes) none) lane call h has named
 
+neither : (a b : Bool) → a ≡ false → b ≡ false → (a || b) ≡ false
+neither a b first second = ap (λ (c : Bool). c || b) first ∙ second
+
+found_named : (xs : List ℕ) (x : ℕ) → list_any (λ (y : ℕ). y == x) xs ≡ true → Contains xs x
+found_named [] x e = absurd (false≢true e)
+found_named (y ∷ xs) x e = go (y == x) refl (found_named xs x)
+  where
+    go : (b : Bool) → (y == x) ≡ b → (list_any (λ (z : ℕ). z == x) xs ≡ true → Contains xs x) → Contains (y ∷ xs) x
+    go true is later = contains_first y xs x (grind (arith, nat_tests, is))
+    go false other later = contains_later y xs x (later (sym (ap (λ (b : Bool). b || list_any (λ (z : ℕ). z == x) xs) other) ∙ e))
+
+ask_unnamed : (t : ℕ) (a : orders.Ask) → ((call : Call) (h : ℕ) → a ≡ Calls call → Contains (handles_of call) h → h ≢ t) → names_handle t a ≡ false
+ask_unnamed t (Calls call) un = go (names_handle t (Calls call)) refl
+  where
+    go : (b : Bool) → names_handle t (Calls call) ≡ b → names_handle t (Calls call) ≡ false
+    go false e = e
+    go true e = absurd (un call t refl (found_named (handles_of call) t e) refl)
+ask_unnamed t (Passes moment) un = refl
+
+line_unnamed : (xs : List Ask) (t : ℕ) → ((call : Call) (h : ℕ) → Contains (map asked xs) (Calls call) → Contains (handles_of call) h → h ≢ t) → list_any (λ (ask : Ask). names_handle t (asked ask)) xs ≡ false
+line_unnamed [] t un = refl
+line_unnamed (x ∷ xs) t un =
+    neither (names_handle t (asked x)) (list_any (λ (ask : Ask). names_handle t (asked ask)) xs)
+    (ask_unnamed t (asked x) (λ call h is. un call h (contains_first (asked x) (map asked xs) (Calls call) is)))
+    (line_unnamed xs t (λ call h has. un call h (contains_later (asked x) (map asked xs) (Calls call) has)))
+
+pub unnamed_in : (lanes : List (Vec Ask Global)) (t : ℕ) → IsUnnamed (plan_of lanes) t → list_any (λ (lane : Vec Ask Global). list_any (λ (ask : Ask). names_handle t (asked ask)) lane.items) lanes ≡ false
+unnamed_in [] t un = refl
+unnamed_in (l ∷ lanes) t un =
+    neither (list_any (λ (ask : Ask). names_handle t (asked ask)) l.items) (list_any (λ (lane : Vec Ask Global). list_any (λ (ask : Ask). names_handle t (asked ask)) lane.items) lanes)
+    (line_unnamed l.items t (un 0)) (unnamed_in lanes t (λ lane. un (suc lane)))
+
 -- ---- kinds
 
-abbrev pub AllTwins : Plan → List ℕ → Type 0
-AllTwins plan kinds = (t : ℕ) → kind_of kinds t ≢ t → AreTwins plan (kind_of kinds t) t
+-- no lane below n is a twin of this one
+abbrev pub NoTwinBelow : Plan → ℕ → ℕ → Type 0
+NoTwinBelow plan n lane = (lower : ℕ) → lower < n → AreTwins plan lower lane → ⊥
 
-pub kinds_more : (plan : Plan) (kinds new : List ℕ) (kind lane : ℕ) → new ≡ kinds ++ kind ∷ [] → length kinds ≡ lane → (kind ≢ lane → AreTwins plan kind lane) → AllTwins plan kinds → AllTwins plan new
-kinds_more plan kinds new kind lane added count twin old = subst (λ (ks : List ℕ). AllTwins plan ks) (sym added) (λ t other. go t other (ltb t (length kinds)) refl)
+pub none_below_next : (plan : Plan) (n lane : ℕ) → NoTwinBelow plan n lane → (AreTwins plan n lane → ⊥) → NoTwinBelow plan (n + 1) lane
+none_below_next plan n lane none other lower below twins = go (ltb lower n) refl
+  where
+    go : (b : Bool) → ltb lower n ≡ b → ⊥
+    go true less = none lower (grind (arith, nat_tests, less)) twins
+    go false past =
+        let least : n ≤ lower = grind (arith, nat_tests, past) in
+        other (subst (λ (k : ℕ). AreTwins plan k lane) (let same : lower ≡ n = omega (arith, least, below) in same) twins)
+
+pub first_twin : (plan : Plan) (n lane : ℕ) → NoTwinBelow plan n lane → (n ≢ lane → AreTwins plan n lane) → IsKind plan lane n
+first_twin plan n lane none twin = record { twin = twin; lowest = λ other _ twins. go other twins (ltb other n) refl }
+  where
+    go : (other : ℕ) → AreTwins plan other lane → (b : Bool) → ltb other n ≡ b → n ≤ other
+    go other twins true less = absurd (none other (grind (arith, nat_tests, less)) twins)
+    go other twins false past = grind (arith, nat_tests, past)
+
+abbrev pub AllKinds : Plan → List ℕ → Type 0
+AllKinds plan kinds = (lane : ℕ) → lane < length kinds → IsKind plan lane (kind_of kinds lane)
+
+pub kinds_more : (plan : Plan) (kinds new : List ℕ) (kind lane : ℕ) → new ≡ kinds ++ kind ∷ [] → length kinds ≡ lane → IsKind plan lane kind → AllKinds plan kinds → AllKinds plan new
+kinds_more plan kinds new kind lane added count is old = subst (λ (ks : List ℕ). AllKinds plan ks) (sym added) (λ t below. go t below (ltb t (length kinds)) refl)
   where
     more : List ℕ
     more = kinds ++ kind ∷ []
 
-    at : (t k : ℕ) → kind_of more t ≡ k → (k ≢ t → AreTwins plan k t) → kind_of more t ≢ t → AreTwins plan (kind_of more t) t
-    at t k is twins other = subst (λ (z : ℕ). AreTwins plan z t) (sym is) (twins (λ same. other (is ∙ same)))
+    at : (t k : ℕ) → kind_of more t ≡ k → IsKind plan t k → IsKind plan t (kind_of more t)
+    at t k same it = subst (λ (z : ℕ). IsKind plan t z) (sym same) it
 
-    go : (t : ℕ) → kind_of more t ≢ t → (b : Bool) → ltb t (length kinds) ≡ b → AreTwins plan (kind_of more t) t
-    go t other true e = at t (kind_of kinds t) (get_or_append_left kinds (kind ∷ []) t t (grind (arith, nat_tests, e))) (old t) other
-    go t other false e = last t other (eqb t (length kinds)) refl (grind (arith, nat_tests, e))
-      where
-        last : (t : ℕ) → kind_of more t ≢ t → (b : Bool) → eqb t (length kinds) ≡ b → length kinds ≤ t → AreTwins plan (kind_of more t) t
-        last t other true here past =
-            let is : t ≡ length kinds = grind (arith, nat_tests, here) in
-            at t kind (get_or_push kinds kind t t (sym is)) (subst (λ (z : ℕ). kind ≢ z → AreTwins plan kind z) (sym count ∙ sym is) twin) other
-        last t other false here past =
-            let long = length_push kinds kind in
-            absurd (other (get_or_past more t t (let no : t ≢ length kinds = λ is. absurd (grind (arith, nat_tests, here, is)) in grind (arith, past, no, long))))
+    go : (t : ℕ) → t < length more → (b : Bool) → ltb t (length kinds) ≡ b → IsKind plan t (kind_of more t)
+    go t below true e =
+        let less : t < length kinds = grind (arith, nat_tests, e) in
+        at t (kind_of kinds t) (get_or_append_left kinds (kind ∷ []) t t less) (old t less)
+    go t below false e =
+        let past : length kinds ≤ t = grind (arith, nat_tests, e) in
+        let long = length_push kinds kind in
+        let last : t ≡ length kinds = omega (arith, below, past, long) in
+        at t kind (get_or_push kinds kind t t (sym last)) (subst (λ (z : ℕ). IsKind plan z kind) (sym count ∙ sym last) is)
 
-pub kinds_told : (plan : Plan) (threads : ℕ) (kinds : List ℕ) → threads ≤ length plan → AllTwins plan kinds → AreKinds plan threads kinds
-kinds_told plan threads kinds each twins = record { twins = twins; each = λ lane other. each }
+pub kinds_told : (plan : Plan) (threads : ℕ) (kinds : List ℕ) → threads ≤ length plan → length kinds ≡ threads → AllKinds plan kinds → AreKinds plan threads kinds
+kinds_told plan threads kinds enough count each = record { each = each; whole = λ _. count; none = λ few. absurd (omega (arith, enough, few)) }
 
-pub kinds_none : (plan : Plan) (threads : ℕ) (kinds : List ℕ) → kinds ≡ [] → AreKinds plan threads kinds
-kinds_none plan threads kinds none = subst (λ (ks : List ℕ). AreKinds plan threads ks) (sym none) (record { twins = λ lane other. absurd (other refl); each = λ lane other. absurd (other refl) })
+pub kinds_none : (plan : Plan) (threads : ℕ) (kinds : List ℕ) → kinds ≡ [] → length plan < threads → AreKinds plan threads kinds
+kinds_none plan threads kinds none few = subst (λ (ks : List ℕ). AreKinds plan threads ks) (sym none)
+    (record { each = λ lane below. absurd (omega (arith, below)); whole = λ enough. absurd (omega (arith, enough, few)); none = λ _. refl })

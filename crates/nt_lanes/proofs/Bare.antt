@@ -243,17 +243,35 @@ dropped zero xs x has = has
 dropped (suc n) [] x has = has
 dropped (suc n) (y ∷ xs) x has = contains_later y xs x (dropped n xs x has)
 
+-- where a lane's kind is another's number
+kind_known : (kinds : List ℕ) (lane : ℕ) → kind_of kinds lane ≢ lane → lane < length kinds
+kind_known kinds lane other = go (ltb lane (length kinds)) refl
+  where
+    go : (b : Bool) → ltb lane (length kinds) ≡ b → lane < length kinds
+    go true e = grind (arith, nat_tests, e)
+    go false e = absurd (other (get_or_past kinds lane lane (grind (arith, nat_tests, e))))
+
+twin_of_kind : (plan : Plan) (threads : ℕ) (kinds : List ℕ) (lane : ℕ) → AreKinds plan threads kinds → kind_of kinds lane ≢ lane → AreTwins plan (kind_of kinds lane) lane
+twin_of_kind plan threads kinds lane are other = (are.each lane (kind_known kinds lane other)).twin other
+
+lanes_enough : (plan : Plan) (threads : ℕ) (kinds : List ℕ) (lane : ℕ) → AreKinds plan threads kinds → kind_of kinds lane ≢ lane → threads ≤ length plan
+lanes_enough plan threads kinds lane are other = go (ltb (length plan) threads) refl
+  where
+    go : (b : Bool) → ltb (length plan) threads ≡ b → threads ≤ length plan
+    go true e = let no = are.none (grind (arith, nat_tests, e)) in let known = kind_known kinds lane other in absurd (omega (arith, no, known))
+    go false e = grind (arith, nat_tests, e)
+
 -- of a kind are twins
 of_a_kind : (plan : Plan) (threads : ℕ) (kinds : List ℕ) (a b : ℕ) → AreKinds plan threads kinds → a ≢ b → kind_of kinds b ≢ b → kind_of kinds a ≡ kind_of kinds b → AreTwins plan a b
 of_a_kind plan threads kinds a b are apart other same = go (kind_of kinds a == a) refl
   where
     second : AreTwins plan (kind_of kinds b) b
-    second = are.twins b other
+    second = twin_of_kind plan threads kinds b are other
 
     go : (c : Bool) → (kind_of kinds a == a) ≡ c → AreTwins plan a b
     go true own = subst (λ (k : ℕ). AreTwins plan k b) (sym same ∙ is_equal (kind_of kinds a) a own) second
     go false not_own =
-        let first = are.twins a (λ is. absurd (grind (arith, nat_tests, not_own, is))) in
+        let first = twin_of_kind plan threads kinds a are (λ is. absurd (grind (arith, nat_tests, not_own, is))) in
         record { same = second.same ∙ (ap (asks plan) (sym same) ∙ sym first.same); first = first.second; second = second.second }
 
 pub stand_alike : (d : Dispatcher) (places : List ℕ) (plan : Plan) (kinds : List ℕ) (lower lane : ℕ) → IsLawful d → length places ≡ length plan → AreKinds plan d.threads kinds → lower < lane → kind_of kinds lane ≢ lane
@@ -265,7 +283,7 @@ stand_alike d places plan kinds lower lane lawful wide are less other bare like 
   object = running lane high ∙ sym (running lower low);
   handle = like_handles lower lane (opened_at d.handles lower) (opened_at d.handles lane) handles;
   handing = like_hands (slice_index_or d.handing lower false) (slice_index_or d.handing lane false) hands;
-  places = let each = are.each lane other in omega (arith, each, wide);
+  places = let enough = lanes_enough plan d.threads kinds lane are other in omega (arith, enough, wide);
   lines = ap (λ (xs : List Ask). drop (place p lane) xs) twins.same ∙ ap (λ (n : ℕ). drop n (asks plan lower)) (sym at);
   unnamed = λ on call h has named. let there = dropped (place p on) (asks plan on) (Calls call) has in (twins.first on call h there named, twins.second on call h there named);
 }

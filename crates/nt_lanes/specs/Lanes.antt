@@ -1,5 +1,5 @@
 -- What each lane is to do, and which lanes a search tries: of threads that stand alike only the lowest.
-use Rattle.std.specs.Prelude.{Vec, map, replicate, length, ◌≡◌, ◌≢◌, ◌≤◌, ◌==◌, ◌&&◌, ◌||◌, not, if◌then◌else◌, Contains, ℕ, zero, suc, Bool, true, false, List, slice_get, slice_index_or, is_some, nat_lt, Option, None, Some}
+use Rattle.std.specs.Prelude.{Vec, map, replicate, length, ◌≡◌, ◌≢◌, ◌<◌, ◌≤◌, ◌==◌, ◌&&◌, ◌||◌, not, if◌then◌else◌, Contains, ℕ, zero, suc, Bool, true, false, List, slice_get, slice_index_or, is_some, nat_lt, Option, None, Some}
 use Rattle.std.specs.List.{list_any}
 use Rattle.std.specs.declared.alloc.Global.{Global}
 use Rattle.nt_objects.specs.Object.{has_ended}
@@ -60,14 +60,20 @@ pub record AreTwins (plan : Plan) (a b : ℕ) : Type 0 where
   pub first : IsUnnamed plan a
   pub second : IsUnnamed plan b
 
--- the lane's kind: the number of a twin, or its own
+-- the lane's kind is the lowest of its twins, or the lane itself
+pub record IsKind (plan : Plan) (lane kind : ℕ) : Type 0 where
+  pub twin : kind ≢ lane → AreTwins plan kind lane
+  pub lowest : (other : ℕ) → other ≤ lane → AreTwins plan other lane → kind ≤ other
+
+-- its kind as a list has it
 abbrev pub kind_of : List ℕ → ℕ → ℕ
 kind_of kinds lane = slice_index_or kinds lane lane
 
--- the kinds of a plan's lanes; where one has a twin, each thread has a lane
+-- the kinds of the threads' lanes, in order; of a plan with fewer lanes than threads there are none
 pub record AreKinds (plan : Plan) (threads : ℕ) (kinds : List ℕ) : Type 0 where
-  pub twins : (lane : ℕ) → kind_of kinds lane ≢ lane → AreTwins plan (kind_of kinds lane) lane
-  pub each : (lane : ℕ) → kind_of kinds lane ≢ lane → threads ≤ length plan
+  pub each : (lane : ℕ) → lane < length kinds → IsKind plan lane (kind_of kinds lane)
+  pub whole : threads ≤ length plan → length kinds ≡ threads
+  pub none : length plan < threads → length kinds ≡ 0
 
 -- ---- of a state
 

@@ -1,5 +1,5 @@
 //! What each thread is to call, one after another.
-ghost use Rattle.std.specs.Prelude.{true, false, ◌≡◌, ◌≤◌, ◌<◌, ◌^◌, ◌+◌, ◌++◌, ◌∷◌, [], length, replicate, slice_get, slice_set, IsSome, IfOk, OnOk, OnErr};
+ghost use Rattle.std.specs.Prelude.{true, false, ◌≡◌, ◌↔◌, ◌≤◌, ◌<◌, ◌^◌, ◌+◌, ◌++◌, ◌∷◌, [], length, replicate, slice_get, slice_set, IsSome, IfOk, OnOk, OnErr};
 ghost use Rattle.std.specs.Option.{option_copied, option_map};
 ghost use Rattle.nt_look.specs.Orders.{asks};
 ghost use Rattle.nt_lanes.specs.Lanes.{asked, IsUnnamed, plan_of};
@@ -103,20 +103,16 @@ impl Plan {
 
     /// Whether both lanes have the same to do.
     pub(crate) fn are_same(&self, a: u32, b: u32) -> bool
-        ensures { result ≡ true → asks self.now b ≡ asks self.now a }
+        requires first { a < length self.now }
+        requires second { b < length self.now }
+        ensures { (result ≡ true) ↔ (asks self.now b ≡ asks self.now a) }
     {
-        match self.lanes.get(a as usize) {
-            Some(asks) => match self.lanes.get(b as usize) {
-                Some(others) => are_same(others, asks),
-                None => false,
-            },
-            None => false,
-        }
+        are_same(&self.lanes[b as usize], &self.lanes[a as usize])
     }
 
     /// Whether a call names the thread's handle.
     pub(crate) fn names(&self, thread: u32) -> bool
-        ensures { result ≡ false → IsUnnamed self.now thread }
+        ensures { (result ≡ false) ↔ IsUnnamed self.now thread }
     {
         lanes_name(&self.lanes, Handle::new(thread))
     }

@@ -1,34 +1,26 @@
 //! Which lanes have the same to do.
-ghost use Rattle.std.specs.Prelude.{◌≡◌, ◌≢◌, ◌==◌, true, map, IfOk};
+ghost use Rattle.std.specs.Prelude.{◌≡◌, ◌↔◌, ◌<◌, ◌==◌, true, length, map, IfOk};
 ghost use Rattle.std.specs.List.{list_any};
 ghost use Rattle.nt_machine.specs.Dispatcher.{state};
 ghost use Rattle.nt_apart.specs.Fewer.{handles_of};
-ghost use Rattle.nt_lanes.specs.Lanes.{asked, names_handle, AreTwins, AreKinds};
+ghost use Rattle.nt_lanes.specs.Lanes.{asked, names_handle, AreTwins, IsKind, AreKinds};
 
 use crate::plan::{Ask, Plan};
 use nt_calls::{Act, Call, WaitCall};
 use nt_core::Core;
-use nt_status::Handle;
+use nt_status::{Handle, Handles};
 use std::alloc::{AllocError, Global};
 
 /// Whether both name the same handles.
-fn are_same_handles(handles: &[Handle], others: &[Handle]) -> bool
-    ensures { result ≡ true → handles.now ≡ others.now }
+fn are_same_handles(handles: &Handles, others: &Handles) -> bool
+    ensures { (result ≡ true) ↔ (handles.now ≡ others.now) }
 {
-    if handles.len() != others.len() {
-        return false;
-    }
-    for i in 0..handles.len() {
-        if handles[i].get() != others[i].get() {
-            return false;
-        }
-    }
-    true
+    handles.as_slice() == others.as_slice()
 }
 
 /// Whether both ask for the same wait.
 fn is_same_wait(a: &WaitCall, b: &WaitCall) -> bool
-    ensures { result ≡ true → a.now ≡ b.now }
+    ensures { (result ≡ true) ↔ (a.now ≡ b.now) }
 {
     match a {
         WaitCall::Objects { all, mode, handles } => match b {
@@ -36,12 +28,7 @@ fn is_same_wait(a: &WaitCall, b: &WaitCall) -> bool
                 all: other_all,
                 mode: other_mode,
                 handles: others,
-            } => {
-                if *all != *other_all || *mode != *other_mode {
-                    return false;
-                }
-                are_same_handles(handles.as_slice(), others.as_slice())
-            }
+            } => *all == *other_all && *mode == *other_mode && are_same_handles(handles, others),
             _ => false,
         },
         WaitCall::Sleep(mode) => match b {
@@ -65,7 +52,7 @@ fn is_same_wait(a: &WaitCall, b: &WaitCall) -> bool
 
 /// Whether both are the same call.
 fn is_same_call(a: &Call, b: &Call) -> bool
-    ensures { result ≡ true → a.now ≡ b.now }
+    ensures { (result ≡ true) ↔ (a.now ≡ b.now) }
 {
     match a {
         Call::Act(act) => match b {
@@ -85,7 +72,7 @@ fn is_same_call(a: &Call, b: &Call) -> bool
 
 /// Whether both ask for the same.
 fn is_same_ask(a: &Ask, b: &Ask) -> bool
-    ensures { result ≡ true → asked a.now ≡ asked b.now }
+    ensures { (result ≡ true) ↔ (asked a.now ≡ asked b.now) }
 {
     match a {
         Ask::Call(call) => match b {
@@ -101,7 +88,7 @@ fn is_same_ask(a: &Ask, b: &Ask) -> bool
 
 /// Whether both lines ask for the same.
 pub fn are_same(a: &[Ask], b: &[Ask]) -> bool
-    ensures { result ≡ true → map asked a.now ≡ map asked b.now }
+    ensures { (result ≡ true) ↔ (map asked a.now ≡ map asked b.now) }
 {
     if a.len() != b.len() {
         return false;
@@ -188,7 +175,9 @@ fn one_names(asks: &[Ask], handle: Handle) -> bool
 
 /// Whether both have the same to do, and no call names the handle of one of the two.
 fn is_twin(plan: &Plan, lower: u32, lane: u32) -> bool
-    ensures { result ≡ true → AreTwins plan.now lower lane }
+    requires first { lower < length plan.now }
+    requires second { lane < length plan.now }
+    ensures { (result ≡ true) ↔ AreTwins plan.now lower lane }
 {
     if !plan.are_same(lower, lane) || plan.names(lower) {
         return false;
@@ -198,7 +187,8 @@ fn is_twin(plan: &Plan, lower: u32, lane: u32) -> bool
 
 /// The lowest twin of the lane; the lane itself if it has none.
 fn twin_of(plan: &Plan, lane: u32) -> u32
-    ensures { result ≢ lane → AreTwins plan.now result lane }
+    requires { lane < length plan.now }
+    ensures { IsKind plan.now lane result }
 {
     for lower in 0..lane {
         if is_twin(plan, lower, lane) {

@@ -158,7 +158,7 @@ is_cut_off seen most lanes s old begun new (Err e) same flat one (met, looked, s
 -- so far the search was that ended
 pub cut_at_end : (most : ℕ) (lanes : Lanes) (s : State) (sink sink' : Writing) (told : Explored) → IsSearched most lanes s sink sink' told → IsCutOff most lanes s sink sink'
 cut_at_end most lanes s sink sink' told (met, looked, search, course) =
-    (met, looked, record { kinds = search.kinds; alike = search.alike; point = search.point; turns = search.turns; left = search.ends.left; few = search.ends.few }, course)
+    (met, looked, record { kinds = search.kinds; alike = λ _. search.alike; point = search.point; turns = search.turns; left = search.ends.left; few = search.ends.few }, course)
 
 -- nothing was told of a search where there was none
 pub told_none : (most : ℕ) (input : List ℕ) (fault : OrdersFault) (sink : Writing) → EndsEarly most input fault sink sink

@@ -4,7 +4,6 @@ use Rattle.nt_explore.specs.declared.met.Visit.{Visit}
 use Rattle.nt_explore.specs.Search.{CanGo, CountsTo, SumsTo}
 use Rattle.nt_lanes.specs.Lanes.{beginning}
 use Rattle.nt_explore.specs.Levels.{IsSearch, IsCounted, LiesAt, then_met}
-use Rattle.nt_lanes.proofs.Adding.{kinds_none}
 use Rattle.nt_explore.proofs.Levels.{search_begins}
 use Rattle.nt_explore.proofs.Counting.{left_more, left_none, learns_more, met_begins, on_refusal, tells_bound, under_way}
 use Rattle.std.proofs.lemmas.Bool.Decides.{nat_tests}
@@ -146,25 +145,25 @@ returns-in_err-kinds-clause-refused g c =
     let plan = c.args.plan.now in
     let s = state c.args.start.now in
     let one : ℕ → ℕ = λ i. 1 in
-    on_refusal c.from_residual.result (one, 0, under_way plan [] (beginning plan s) c.args.most (λ i. beginning plan s) one 0 (kinds_none plan s.threads [] refl) (met_begins plan [] s).turns (left_none c.args.most one), refl)
+    on_refusal c.from_residual.result (one, 0, under_way plan [] (beginning plan s) c.args.most (λ i. beginning plan s) one 0 (λ some. absurd (omega (arith, some))) (met_begins plan [] s).turns (left_none c.args.most one), refl)
 
 pub returns-in_err-met-clause-refused : goal.returns-in_err-met-clause-refused
 returns-in_err-met-clause-refused g c =
     let plan = c.args.plan.now in
     let s = state c.args.start.now in
     let one : ℕ → ℕ = λ i. 1 in
-    on_refusal c.from_residual-in_err-met.result (one, 0, under_way plan c.in_ok-kinds.kinds.items (beginning plan s) c.args.most (λ i. beginning plan s) one 0 c.in_ok-kinds.ensures (met_begins plan c.in_ok-kinds.kinds.items s).turns (left_none c.args.most one), refl)
+    on_refusal c.from_residual-in_err-met.result (one, 0, under_way plan c.in_ok-kinds.kinds.items (beginning plan s) c.args.most (λ i. beginning plan s) one 0 (λ _. c.in_ok-kinds.ensures) (met_begins plan c.in_ok-kinds.kinds.items s).turns (left_none c.args.most one), refl)
 
 pub returns-in_err-look_at-clause-refused : goal.returns-in_err-look_at-clause-refused
 returns-in_err-look_at-clause-refused g c =
     let l = c.loop-looked in
     let so = l.invariant.5 in
     on_refusal c.from_residual-in_err-look_at.result
-    (l.invariant.4, l.looked, under_way c.args.plan.now c.in_ok-kinds.kinds.items (beginning c.args.plan.now (state c.args.start.now)) c.args.most so.0.0 l.invariant.4 l.looked c.in_ok-kinds.ensures so.1.turns l.invariant.6, l.invariant.7)
+    (l.invariant.4, l.looked, under_way c.args.plan.now c.in_ok-kinds.kinds.items (beginning c.args.plan.now (state c.args.start.now)) c.args.most so.0.0 l.invariant.4 l.looked (λ _. c.in_ok-kinds.ensures) so.1.turns l.invariant.6, l.invariant.7)
 
 pub returns-in_err-verdict-clause-refused : goal.returns-in_err-verdict-clause-refused
 returns-in_err-verdict-clause-refused g c =
     let l = c.loop-looked in
     let so = l.invariant.5 in
     on_refusal c.from_residual-in_err-verdict.result
-    (l.invariant.4, l.looked, under_way c.args.plan.now c.in_ok-kinds.kinds.items (beginning c.args.plan.now (state c.args.start.now)) c.args.most so.0.0 l.invariant.4 l.looked c.in_ok-kinds.ensures so.1.turns l.invariant.6, l.invariant.7)
+    (l.invariant.4, l.looked, under_way c.args.plan.now c.in_ok-kinds.kinds.items (beginning c.args.plan.now (state c.args.start.now)) c.args.most so.0.0 l.invariant.4 l.looked (λ _. c.in_ok-kinds.ensures) so.1.turns l.invariant.6, l.invariant.7)

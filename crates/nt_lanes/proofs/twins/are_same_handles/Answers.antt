@@ -1,8 +1,7 @@
-use Rattle.std.proofs.Common.{arith}
-use Rattle.std.proofs.lemmas.Bool.Decides.{nat_tests}
-use Rattle.nt_lanes.proofs.Adding.{all_equal}
+use Rattle.std.proofs.Common.{nat_eq, ◌∙◌}
+use Rattle.std.specs.Cmp.Lexicographic.{pointwise, told_text}
+use Rattle.nt_lanes.proofs.Adding.{exactly}
 use Rattle.nt_lanes.proofs.twins.are_same_handles.Goals as goal
 
 pub returns : goal.returns
-returns c = λ _. all_equal c.args.handles.now c.args.others.now (let other = c.if-handles-others.false in grind (arith, nat_tests, other))
-    (λ k below. c.loop-i.invariant k (let past = c.loop-i-test.false in let end = c.loop-i.auto.i-end in grind (arith, nat_tests, below, past, end)))
+returns c = exactly _ c.eq.result (told_text c.args.handles.now c.args.others.now c.eq.result (c.eq.ensures ∙ (λ i. pointwise nat_eq (c.as_slice.ensures i) (c.as_slice-2.ensures i))))
