@@ -121,6 +121,7 @@ COMMANDS = {
     "threads": 'echo threads "$@"',
     "explore": 'echo 12345 67890 17 >"$NT_PROGRESS"; sleep 2.5; echo "$1: explored"',
     "why": 'while read -r line; do :; done <"$1"; echo "$1:1: nobody waits"',
+    "timeline": 'echo "$GLIBC_TUNABLES"',
 }
 KIT = """#!/bin/sh
 [ "$1" = version ] && { echo "rattle-kit-0 logic ${LOGIC:-dac8208d650f15bf}"; exit; }
