@@ -48,7 +48,7 @@ class Edit:
         self.crate, self.name, self.is_private = crate, f"{crate.name}/{name}", is_private
         self.texts, self.bad = texts_of_edit(crate, pairs)
         self.lines = {at: new for path, text in self.texts.items() for at, new in changed(crate, path, text)}
-        self.functions, self.laws = set(), set()
+        self.functions, self.laws, self.is_shared = set(), set(), False
 
     def find(self, functions):
         """Finds the functions in whose bodies it stands, and the laws that cite what it changes."""
@@ -64,12 +64,13 @@ class Edit:
         return line == function.opens - 1 and self.lines[path, line].startswith(f"{own} {{")
 
     def laws_that_cite(self, functions):
-        """The laws that cite what the edit changes, where no other function does."""
+        """The laws that cite what the edit changes. It is shared where other functions cite that too."""
         if not self.lines or not all(path.startswith("specs/") for path, _ in self.lines):
             return set()
         cited = cites(definitions_of(self.crate), self.lines)
         citing = {it for it in functions if cited & words_of_head(self.crate, it)}
-        return citing if all(it.opens == it.ends for it in citing) else set()
+        self.is_shared = any(it.opens != it.ends for it in citing)
+        return {it for it in citing if it.opens == it.ends}
 
     def changes(self):
         """The functions and laws that it changes; none where it is tried alone."""
@@ -85,10 +86,10 @@ def changed(crate, path, text):
 
 def rounds_of(edits, parts=Edit.changes):
     """Rounds in which no two edits change one function or law, or another part, as few as that with most edits needs. Edits of laws come last and into
-    the smallest rounds, since a round that they spoil is tried once more without them."""
+    the smallest rounds, since a round that they spoil is tried once more without them, and shared ones stand beside no edit of a function."""
     rounds = []
     for edit in sorted(edits, key=lambda it: bool(it.laws)):
-        free = [it for it in rounds if not any(parts(edit) & parts(other) for other in it)]
+        free = [it for it in rounds if not any(parts(edit) & parts(other) or edit.is_shared and other.functions for other in it)]
         if free:
             free[-1 if edit.laws else 0].append(edit)
         else:

@@ -127,8 +127,8 @@ class Trial:
             self.verdicts.note_passed(self.sums[it])
 
     def tries(self, edits):
-        """Tries these edits together, and then those that this does not tell."""
-        if len(edits) == 1:
+        """Tries these edits together, and then those that this does not tell. A round of one edit is a check of what it changes, too."""
+        if not edits[0].changes():
             return self.try_alone(edits[0])
         texts, begun = texts_of(self.crate, edits), time.monotonic()
         answers, firsts = failing_answers(self.crate, set().union(*(it.functions for it in edits)))
@@ -141,9 +141,9 @@ class Trial:
         apart = not refused and not again and all(parts)
         rest = "those of laws are tried apart" if apart else f"{len(again)} for another round, {len(alone)} to try alone"
         self.progress.tell(f"{self.crate.name}: {len(refused)} of {len(edits)} edits of a round refused, {rest}, {time.monotonic() - begun:.0f} s")
-        for some in parts if apart else [again, *([it] for it in alone)]:
-            if some:
-                self.tries(some)
+        then = [(self.tries, it) for it in (parts if apart else [again]) if it] + [(self.try_alone, it) for it in alone if not apart]
+        for call, it in then:
+            call(it)
 
     def try_alone(self, edit):
         said = self.check(edit.texts)
