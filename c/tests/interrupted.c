@@ -75,7 +75,7 @@ static bool is_set(HANDLE event)
     return WaitForSingleObject(event, 0) == WAIT_OBJECT_0;
 }
 
-/* Tries the handler's call at each instruction. Then what each answered is so. */
+/* Tries the handler's call at each instruction of the share. Then what each answered is so. (A share may have none at which it does, or is refused.) */
 static void interrupt_by(act *inner, void then(void), const char *name, act *before, act *call, act *other)
 {
     bool came = true;
@@ -91,8 +91,9 @@ static void interrupt_by(act *inner, void then(void), const char *name, act *bef
         then();
     }
     alarm(0);
-    IS(sets > 0, true);
-    IS(refusals > 0, true);
+    IS(sets + refusals, (number - share.first) / share.of);
+    IS(sets > 0 || share.of > 1, true);
+    IS(refusals > 0 || share.of > 1, true);
 }
 
 static void look_at_others(void)

@@ -42,7 +42,7 @@ static void on_hang(int signal)
     _exit(write(STDOUT_FILENO, line, (size_t)length) < 0 ? 6 : 5);
 }
 
-/* Tries the pair at each instruction. At least this number are the call's own. */
+/* Tries the pair at each instruction of the share. At least this number are the call's own. */
 static void try_pair(const char *name, act *prepare, act *call, act *other, act *finish, long least)
 {
     bool came = true;

@@ -26,6 +26,17 @@
 
 enum { TRAP_FLAG = 0x100, US_FOR_THE_OTHER = 1000, MS_UNTIL_A_LOOK = 20, MOST_PLACES = 64, MOST_MISSED = 3 };
 
+/* What a run stops at: each instruction; or each of a share, as SHARE=K/N of the environment says: one of each N, from that of number K on. So
+ * N runs, of K from 0 on, together stop at each instruction once. */
+static struct { long first, of; } share = { 0, 1 };
+
+static void take_share(void)
+{
+    const char *text = getenv("SHARE");
+    if (text != NULL && (sscanf(text, "%ld/%ld", &share.first, &share.of) != 2 || share.first < 0 || share.first >= share.of))
+        abort();
+}
+
 typedef void act(void);
 
 static struct {
@@ -209,6 +220,7 @@ static void go_on_stepping(void *round)
 static void begin_stepping(void)
 {
     struct sigaction action = { .sa_sigaction = on_trap, .sa_flags = SA_SIGINFO };
+    take_share();
     if (sigaction(SIGTRAP, &action, NULL) != 0 || pthread_key_create(&stepping, go_on_stepping) != 0)
         abort();
 }
@@ -325,13 +337,14 @@ static bool step(act *call, act *other, long number)
     return stepped.left < 0;
 }
 
-/* Begins with a pair's first instruction, or goes on with the next, where the call came to the last. (Where it did not it may have gone another,
- * shorter way: that one is tried again, from the call's beginning on.) Answers whether there is one. */
+/* Begins with the first instruction of the share, where the number is below 0, or goes on with its next, where the call came to the last. (Where it
+ * did not it may have gone another, shorter way: that one is tried again, from the call's beginning on.) Answers whether there is one. */
 static bool next_step(long *number, int *missed, bool came)
 {
+    const bool begins = *number < 0;
     *missed = came ? 0 : *missed + 1;
-    *number += came;
-    if (!came || *number == 0)
+    *number = begins ? share.first : *number + (came ? share.of : 0);
+    if (!came || begins)
         places.known = 0;
     return *missed < MOST_MISSED;
 }
