@@ -22,7 +22,8 @@ static void write_why(struct report *to, const char *none)
 enum { SECONDS_EACH_TIME = 120 };
 
 static HANDLE mine, others, third;
-static LONG has_set, sets, refusals;
+static _Atomic LONG has_set;
+static LONG sets, refusals;
 static const char *pair;
 static long number;
 

@@ -255,19 +255,22 @@ static void seven_has_ended(void)
     place = seat_of(listed_number_of(ended));
 }
 
-/* Its place is given to another, which ends with 8. */
+/* Its place is given to another, which ends with 8. (The first may get that of the stepped thread, which leaves where its call has ended.) */
 static void another_ends_there(void)
 {
     struct past *past = calloc(1, sizeof *past);
+    HANDLE next[2];
+    int count = 0;
     must(ntw_join() != NULL && past != NULL);
     take_lock();
     must(set_aside(place, past));
     renew_seats();
-    must(waiting.spare == place);
     give_lock();
-    HANDLE next = CreateThread(NULL, 0, end_with, (LPVOID)8, 0, NULL);
-    must(next != NULL && seat_of(listed_number_of(next)) == place);
-    must(WaitForSingleObject(next, INFINITE) == WAIT_OBJECT_0 && CloseHandle(next));
+    do
+        must(count < 2 && (next[count] = CreateThread(NULL, 0, end_with, (LPVOID)8, 0, NULL)) != NULL);
+    while (seat_of(listed_number_of(next[count++])) != place);
+    while (count-- > 0)
+        must(WaitForSingleObject(next[count], INFINITE) == WAIT_OBJECT_0 && CloseHandle(next[count]));
 }
 
 static void read_seven(void)
@@ -282,7 +285,7 @@ static void close_ended(void)
 }
 
 /* A thread ends while another waits for it: who learns of its end finds its code. */
-static struct seat *waits_for_end;
+static struct seat *_Atomic waits_for_end;
 
 static DWORD WINAPI wait_for_end(LPVOID thread)
 {

@@ -14,7 +14,7 @@
 
 static void *take_page(size_t size);
 static void give_page(void *at);
-static volatile bool is_full; /* the system has no thread more */
+static _Atomic bool is_full; /* the system has no thread more */
 
 #define malloc(size) UNSTEPPED(take_page(size))
 #define calloc(count, size) UNSTEPPED(take_page((count) * (size)))

@@ -3,7 +3,8 @@
  * program (libc, the kernel) and in the dispatcher are passed over. No time is taken for enough: the other call has its turn until all
  * threads sleep, or have ended.
  *
- * A test includes this before ntwin.c. It is for a build without sanitizers, which would be stepped through, too. */
+ * A test includes this before ntwin.c. A sanitizer's own calls are passed over as the system's are; but the trap may come within them. So what is done
+ * at each instruction is not looked at by one, nor calls what one has in the system's place. */
 #ifndef STEP_H
 #define STEP_H
 
@@ -12,6 +13,7 @@
 #include "asleep.h"
 
 #include <dirent.h>
+#include <dlfcn.h>
 #include <limits.h>
 #include <pthread.h>
 #include <semaphore.h>
@@ -24,7 +26,7 @@
 #include <ucontext.h>
 #include <unistd.h>
 
-enum { TRAP_FLAG = 0x100, US_FOR_THE_OTHER = 1000, MS_UNTIL_A_LOOK = 20, MOST_PLACES = 64, MOST_MISSED = 3 };
+enum { TRAP_FLAG = 0x100, US_FOR_THE_OTHER = 1000, MS_UNTIL_A_LOOK = 20, MOST_PLACES = 64, MOST_MISSED = 3, MOST_OUTSIDE = 64 };
 
 /* What a run stops at: each instruction; or each of a share, as SHARE=K/N of the environment says: one of each N, from that of number K on. So
  * N runs, of K from 0 on, together stop at each instruction once. */
@@ -44,7 +46,7 @@ static struct {
     act *inner;                 /* null, or what the stopped thread calls itself, as a handler of signals that has interrupted its call */
     bool to_the_end;            /* the thread's end is a part of the call */
     long number;                           /* of the instruction before which the call stops */
-    volatile long left;                    /* how many instructions more until then; below 0 once it has */
+    _Atomic long left;                     /* how many instructions more until then; below 0 once it has */
     _Atomic pid_t task;                    /* the system's number of the call's thread */
     _Atomic bool is_in_system, asks;       /* the call may sleep; or lets the other have its turn */
     _Atomic bool has_ended;                /* the call has */
@@ -62,7 +64,19 @@ static struct {
     int known, first, next;
 } places;
 
-extern const char __executable_start[], etext[];
+/* The program: what of a sanitizer clang links into it is not in this section. */
+#if defined __clang__
+#pragma clang section text = "stepped_text"
+#define UNSANITIZED __attribute__((disable_sanitizer_instrumentation))
+extern const char first_inside[] __asm__("__start_stepped_text"), end_inside[] __asm__("__stop_stepped_text");
+#else
+#define UNSANITIZED __attribute__((no_sanitize("address", "thread", "undefined")))
+extern const char first_inside[] __asm__("__executable_start"), end_inside[] __asm__("etext");
+#endif
+
+/* The system's own, whatever a sanitizer has in their place. */
+extern int __sigaction(int, const struct sigaction *, struct sigaction *);
+static int (*post_by_system)(sem_t *);
 
 static inline void set_trap_flag(void)
 {
@@ -126,12 +140,12 @@ static void step_on(void)
 #define nt_close_handle(...) UNSTEPPED(nt_close_handle(__VA_ARGS__))
 
 /* Nor are the system's, in which the call may sleep. */
-static void enter_system(void)
+UNSANITIZED static void enter_system(void)
 {
     if (!is_stepped)
         return;
     stepped.is_in_system = true;
-    sem_post(&stepped.tells);
+    post_by_system(&stepped.tells);
 }
 
 static long leave_system(long answer)
@@ -170,23 +184,52 @@ static void let_the_other_run(void)
 /* Whether the call does not stop here: the test says so. */
 static bool is_passed_over(void);
 
-/* An instruction of the stepped thread is about to run. Answers whether it stops before that. */
-static bool stops_before(const char *at)
+/* What the program calls outside, as libc or a sanitizer, is not stepped through: it returns to `come_back`, which has the thread stepped from where
+ * it was called on. */
+static const char *returns_to[MOST_OUTSIDE], **volatile innermost __attribute__((used)) = returns_to;
+static const unsigned char *last_inside;
+extern const char come_back[] __attribute__((visibility("hidden")));
+__asm__(".pushsection .text\ncome_back:\n push %rax\n push %rax\n mov innermost(%rip), %rax\n sub $8, %rax\n mov %rax, innermost(%rip)\n"
+        " mov (%rax), %rax\n mov %rax, 8(%rsp)\n pop %rax\n pushfq\n orq $0x100, (%rsp)\n popfq\n ret\n.popsection");
+
+UNSANITIZED static bool is_inside(const char *at)
 {
-    if (at < __executable_start || at >= etext) {
-        if (at[0] == 0x0F && at[1] == 0x05)
-            enter_system();
+    return at >= first_inside && at < end_inside;
+}
+
+/* The stepped thread is outside, at this instruction. Answers whether it was called there just now, and returns to the program. */
+UNSANITIZED static bool is_called_outside(const char **stack)
+{
+    const unsigned char *from = last_inside;
+    last_inside = NULL;
+    if (from == NULL || from[0] == 0xC3 || (from[0] == 0xF3 && from[1] == 0xC3) || !is_inside(*stack) || innermost == returns_to + MOST_OUTSIDE)
         return false;
-    }
+    *innermost++ = *stack;
+    *stack = come_back;
+    return true;
+}
+
+/* An instruction of the stepped thread is about to run. Answers whether it stops before that. */
+UNSANITIZED static bool stops_before(const char *at)
+{
     stepped.is_in_system = false;
+    last_inside = (const unsigned char *)at;
     return !is_passed_over() && stepped.left-- <= 0;
 }
 
-static void on_trap(int signal, siginfo_t *info, void *context)
+UNSANITIZED static void on_trap(int signal, siginfo_t *info, void *context)
 {
     (void)signal, (void)info;
     greg_t *const registers = ((ucontext_t *)context)->uc_mcontext.gregs;
-    if (is_stepped && !stops_before((const char *)registers[REG_RIP]))
+    const char *const at = (const char *)registers[REG_RIP];
+    if (is_stepped && !is_inside(at)) {
+        if (is_called_outside((const char **)registers[REG_RSP]))
+            registers[REG_EFL] &= ~TRAP_FLAG;
+        else if (at[0] == 0x0F && at[1] == 0x05)
+            enter_system();
+        return;
+    }
+    if (is_stepped && !stops_before(at))
         return;
     const bool stops = is_stepped;
     registers[REG_EFL] &= ~TRAP_FLAG;
@@ -197,8 +240,10 @@ static void on_trap(int signal, siginfo_t *info, void *context)
         (stepped.inner != NULL ? stepped.inner : let_the_other_run)();
 }
 
-/* A thread that ends by itself is stepped until the library's destructors have run; later, the system blocks signals. */
+/* A thread that ends by itself is stepped until the library's destructors have run; later, the system blocks signals. (A ThreadSanitizer takes it for
+ * ended in the last round of them.) */
 static pthread_key_t stepping;
+extern void __tsan_acquire(void *) __attribute__((weak));
 
 static void end_stepping(void)
 {
@@ -211,7 +256,7 @@ static void go_on_stepping(void *round)
 {
     static const char rounds[PTHREAD_DESTRUCTOR_ITERATIONS];
     const char *next = round == &stepping ? rounds : (const char *)round + 1;
-    if (next < rounds + PTHREAD_DESTRUCTOR_ITERATIONS - 1)
+    if (next < rounds + PTHREAD_DESTRUCTOR_ITERATIONS - (__tsan_acquire != NULL ? 2 : 1))
         pthread_setspecific(stepping, next);
     else
         end_stepping();
@@ -221,7 +266,8 @@ static void begin_stepping(void)
 {
     struct sigaction action = { .sa_sigaction = on_trap, .sa_flags = SA_SIGINFO };
     take_share();
-    if (sigaction(SIGTRAP, &action, NULL) != 0 || pthread_key_create(&stepping, go_on_stepping) != 0)
+    *(void **)&post_by_system = dlsym(dlopen("libc.so.6", RTLD_LAZY), "sem_post");
+    if (post_by_system == NULL || __sigaction(SIGTRAP, &action, NULL) != 0 || pthread_key_create(&stepping, go_on_stepping) != 0)
         abort();
 }
 
@@ -323,10 +369,11 @@ static void run_call(void)
 static bool step(act *call, act *other, long number)
 {
     pthread_t threads[2];
-    stepped.call = call, stepped.other = other, stepped.number = stepped.left = number;
+    stepped.call = call, stepped.other = other, stepped.number = number, stepped.left = number;
     stepped.has_begun = stepped.has_ended = stepped.asks = stepped.is_in_system = false;
     stepped.task = 0;
     begin_places();
+    innermost = returns_to, last_inside = NULL;
     if (sem_init(&stepped.goes, 0, 0) != 0 || sem_init(&stepped.goes_on, 0, 0) != 0 || sem_init(&stepped.tells, 0, 0) != 0)
         abort();
     if (pthread_create(&threads[1], NULL, run_other, NULL) != 0 || pthread_create(&threads[0], NULL, run_stepped, NULL) != 0)

@@ -285,7 +285,7 @@ static void two_wait_for_the_word(void)
     while (count_at(&shared->word) < 2)
         sched_yield();
     usleep(50);
-    shared->word = 1;
+    WriteRelease(&shared->word, 1);
 }
 
 static void wake_all_at_word(void)
