@@ -1,7 +1,12 @@
-"""What benches found: the figures of each in a file below out/bench, from which `bench/all` writes the tables of docs/PERFORMANCE.md; and the
-counts of instructions that rows are held to, in bench/NAME.counts."""
+"""What benches found: the figures of each in a file below out/bench, from which `bench/all` writes the tables of docs/PERFORMANCE.md; how
+instructions are counted, also by function; and the counts that rows are held to, in bench/NAME.counts."""
+import collections
+import concurrent.futures
 import json
 import os
+import re
+import subprocess
+import tempfile
 
 TOP = os.path.dirname(os.path.dirname(os.path.abspath(__file__)))
 KEPT = f"{TOP}/out/bench"
@@ -10,6 +15,51 @@ KEPT = f"{TOP}/out/bench"
 def load():
     """How much work there is on this machine now, as benches tell it."""
     return f"{os.getloadavg()[0]:.1f} on {os.cpu_count()} processors"
+
+
+def count(words, **how):
+    """What the program prints, and how many instructions it runs, by valgrind's count."""
+    counting = ["valgrind", "--tool=callgrind", "--callgrind-out-file=/dev/null", *words]
+    ran = subprocess.run(counting, stdout=subprocess.PIPE, stderr=subprocess.PIPE, text=True, check=True, **how)
+    return ran.stdout, int(re.search(r"Collected : (\d+)", ran.stderr)[1])
+
+
+def at_once(work, items):
+    """Yields what the work answers for each item, in their order, made on all processors at once: for counts, which other work does not change."""
+    with concurrent.futures.ThreadPoolExecutor(os.cpu_count()) as pool:
+        yield from pool.map(work, items)
+
+
+def own_of(words, **how):
+    """How many instructions each function of a program runs itself, by valgrind."""
+    with tempfile.TemporaryDirectory() as folder:
+        counting = ["valgrind", "--tool=callgrind", f"--callgrind-out-file={folder}/counted", *words]
+        subprocess.run(counting, stdout=subprocess.DEVNULL, stderr=subprocess.DEVNULL, check=True, **how)
+        with open(f"{folder}/counted", encoding="ascii", errors="replace") as file:
+            lines = file.read().splitlines()
+    names, own, function, is_callee = {}, collections.Counter(), None, False
+    for line in lines:
+        named = re.match(r"(c?fn)=\((\d+)\)(?: (.*))?$", line)
+        if named:
+            names.setdefault(named[2], named[3])
+            function = named[2] if named[1] == "fn" else function
+        elif line.startswith("calls="):
+            is_callee = True
+        elif re.match(r"[+*-]?\d* \d+$", line):
+            own[names[function]] += 0 if is_callee else int(line.split()[-1])
+            is_callee = False
+    return own
+
+
+def tell_functions(what, words_of, few, many, **how):
+    """Tells in which functions the instructions of a round are: what `many` rounds take above `few`."""
+    less, more = at_once(lambda it: own_of(words_of(it), **how), [few, many])
+    rounds = {name: (count - less[name]) / (many - few) for name, count in more.items()}
+    total = sum(rounds.values())
+    print(f"{what}: {total:,.0f} instructions a round")
+    for name, it in sorted(rounds.items(), key=lambda pair: -pair[1]):
+        if it > total / 100:
+            print(f"  {it:10,.0f}  {name}", flush=True)
 
 
 def keep(bench, rows):
