@@ -76,7 +76,7 @@ static bool is_set(HANDLE event)
     return WaitForSingleObject(event, 0) == WAIT_OBJECT_0;
 }
 
-/* Tries the handler's call at each instruction of the share. Then what each answered is so. (A share may have none at which it does, or is refused.) */
+/* Tries the handler's call at each instruction of the share. Then what each answered is so. (A share may have none of either answer.) */
 static void interrupt_by(act *inner, void then(void), const char *name, act *before, act *call, act *other)
 {
     bool came = true;
@@ -257,10 +257,12 @@ static void interrupt_at_latches(void)
 
 /* ---- A signal wakes a thread that sleeps, and its handler sets what that waits for. */
 
+/* (Where it has, a signal more does nothing: the next thread would find the event set, and be gone before its first signal.) */
 static void on_signal(int signal)
 {
     (void)signal;
-    set_others();
+    if (!has_set)
+        set_others();
 }
 
 static void *wait_for_others(void *none)
