@@ -92,13 +92,14 @@ def counts_of(bench):
 
 def write_counts(bench, counts):
     with open(f"{TOP}/bench/{bench}.counts", "w", encoding="ascii") as file:
-        file.writelines(f"{row}: {count}\n" for row, count in counts.items())
+        file.writelines(f"{row}: {round(count)}\n" for row, count in counts.items())
 
 
 def held(bench, counts):
-    """Says which rows take more than 5 in 100 above their counts, or have none; answers whether there is none of these."""
+    """Says which rows take more than 5 in 100 above their counts, or have none; answers whether there is none of these. (A count that is kept is
+    rounded, and rows of 15 instructions vary by half of one.)"""
     before = counts_of(bench)
-    grown = [row for row, count in counts.items() if row not in before or 100 * count > 105 * before[row]]
+    grown = [row for row, count in counts.items() if row not in before or 100 * count > 105 * (before[row] + 0.5)]
     for row in grown:
         print(f"bench/{bench}: {row}: {counts[row]:,} instructions, {before.get(row, 'none')} in bench/{bench}.counts")
     return not grown
