@@ -49,7 +49,8 @@ static bool is_in_pages(const char *at)
 
 static void give_page(void *at)
 {
-    if (at == to_be_freed)
+    /* (Nothing is freed, too: by a thread that ends, which may be held up here until the next try waits for its piece.) */
+    if (at != NULL && at == to_be_freed)
         to_be_freed = NULL;
     if (is_in_pages(at))
         must(mprotect(at, PAGE, PROT_NONE) == 0);
