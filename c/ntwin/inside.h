@@ -215,6 +215,7 @@ struct own {
     bool has_turn;     /* it forks, and nobody tells meanwhile why threads wait */
     DWORD mark;        /* its id once it has entered a critical section, by which it enters the next; 0 where a sanitizer learns of each */
     volatile uint32_t latches; /* how many latches it has, or waits for, which its handlers of signals read (win32/latch.c) */
+    volatile uint32_t calls;   /* how many threads of pools it has called, and has yet to wake; its handlers read that, too (win32/pool.c) */
 };
 #ifndef own
 NTW_VARIABLE _Thread_local struct own own __attribute__((tls_model("initial-exec")));

@@ -196,6 +196,11 @@ static void submit_in_handler(void)
     SetLastError(0);
     submit_work();
     note_whether(GetLastError() == 0);
+    /* (Its thread may have called one of the pool's, and has yet to wake that: so this call wakes another.) */
+    for (int i = 0; has_set && ran == 0; i++) {
+        must(i < 200000);
+        doze();
+    }
 }
 
 static void wait_for_callbacks(void)
@@ -241,8 +246,9 @@ static void interrupt_at_latches(void)
 {
     TP_CALLBACK_ENVIRON environment;
     PTP_POOL pool = CreateThreadpool(NULL);
-    must(pool != NULL && SetThreadpoolThreadMinimum(pool, 1));
-    SetThreadpoolThreadMaximum(pool, 1);
+    /* (One for each call: the interrupted one may have yet to wake its own.) */
+    must(pool != NULL && SetThreadpoolThreadMinimum(pool, 2));
+    SetThreadpoolThreadMaximum(pool, 2);
     InitializeThreadpoolEnvironment(&environment);
     SetThreadpoolCallbackPool(&environment, pool);
     port = CreateIoCompletionPort(INVALID_HANDLE_VALUE, NULL, 0, 0);

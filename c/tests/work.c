@@ -83,10 +83,10 @@ static void least_threads(void)
     IS(threads_once(before + 5), before + 5);
     for (int i = 0; i < 9; i++)
         SubmitThreadpoolWork(work);
-    while (ReadAcquire(&ran) < 5)
+    /* (An idle thread that is not called looks by itself after a minute.) */
+    for (int i = 0; i < 20000 && ReadAcquire(&ran) < 5; i++)
         Sleep(1);
-    Sleep(20);
-    IS(ReadAcquire(&ran), 5);
+    IS(later(&ran), 5);
     SetEvent(GO);
     WaitForThreadpoolWorkCallbacks(work, FALSE);
     ResetEvent(GO);

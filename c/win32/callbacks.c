@@ -255,6 +255,7 @@ static bool wait_for_work(PTP_POOL pool)
     const bool was_called = wait_on(&pool->calls, &calls, sizeof calls, IDLE_MS, OF_LIBRARY);
     take_latch(&pools_latch);
     pool->idle--;
+    pool->has_called = false;
     return pool->first != NULL || (was_called ? !pool->is_closed || pool->tasks > 0 : pool->threads <= pool->least);
 }
 
@@ -283,7 +284,9 @@ NTW_INTERNAL DWORD WINAPI work_in_pool(LPVOID at)
     pool->expected--;
     do {
         for (struct task *task; !is_to_leave(pool) && (task = take_callback(pool, &outcome)) != NULL;) {
+            PVOID calls = pool->first != NULL ? call_idle_thread(pool) : NULL;
             give_latch(&pools_latch);
+            wake_called(calls);
             run_callback(task, outcome);
             take_latch(&pools_latch);
         }

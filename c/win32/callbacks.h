@@ -16,6 +16,7 @@ struct _TP_POOL {
     struct task *first, *last;   /* the queue */
     uint32_t waiting_callbacks;  /* of all tasks in it */
     uint32_t threads, idle, most, least;
+    bool has_called;             /* an idle one was called, and has yet to come: it calls the next */
     uint32_t starting;           /* how many of the threads have who starts them still at it */
     uint32_t working;            /* how many have begun, and have not left */
     int32_t expected;            /* how many the system gave, less how many have ever begun: which may come first */
@@ -62,7 +63,7 @@ struct task {
  * back: the pool may be gone then, but where the thread is new. */
 struct call {
     PTP_POOL pool;
-    PVOID calls; /* the address of its word */
+    PVOID calls; /* the address of its word, where an idle one is to be woken; else null */
     bool is_new;
 };
 
@@ -78,6 +79,8 @@ NTW_INTERNAL bool leave_pools(PTP_POOL pool);
 NTW_INTERNAL uint32_t known_threads(const struct _TP_POOL *pool);
 NTW_INTERNAL void count_new_thread(PTP_POOL pool);
 NTW_INTERNAL bool start_in_pool(PTP_POOL pool);
+NTW_INTERNAL PVOID call_idle_thread(PTP_POOL pool);
+NTW_INTERNAL void wake_called(PVOID calls);
 NTW_INTERNAL struct call call_for_thread(PTP_POOL pool);
 NTW_INTERNAL bool bring_thread(struct call call);
 NTW_INTERNAL bool bring_lacking(PTP_POOL pool);

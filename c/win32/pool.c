@@ -74,20 +74,40 @@ NTW_INTERNAL bool start_in_pool(PTP_POOL pool)
     return false;
 }
 
+/* Calls an idle thread, under the latch; not beside one that has yet to come, but where the caller is a handler of signals: it may have interrupted who
+ * wakes that one. Answers the address of the word to wake it by, or null where none is to be woken. */
+NTW_INTERNAL PVOID call_idle_thread(PTP_POOL pool)
+{
+    if (pool->idle == 0 || (pool->has_called && own.calls == 0))
+        return NULL;
+    pool->has_called = true;
+    own.calls++;
+    atomic_fetch_add_explicit(&pool->calls, 1, memory_order_relaxed);
+    return (PVOID)&pool->calls;
+}
+
+/* Wakes it, once the latch is given back. */
+NTW_INTERNAL void wake_called(PVOID calls)
+{
+    if (calls == NULL)
+        return;
+    WakeByAddressSingle(calls);
+    own.calls--;
+}
+
 /* (Where the system may yet refuse each thread that the pool has, this is one more: that it is too many is seen later.) */
 NTW_INTERNAL struct call call_for_thread(PTP_POOL pool)
 {
-    const struct call call = { pool, (PVOID)&pool->calls, wants_thread(pool) || known_threads(pool) == 0 };
+    const struct call call = { pool, call_idle_thread(pool), wants_thread(pool) || known_threads(pool) == 0 };
     if (call.is_new)
         count_new_thread(pool);
-    atomic_fetch_add_explicit(&pool->calls, 1, memory_order_relaxed);
     return call;
 }
 
 /* Answers whether the thread comes. */
 NTW_INTERNAL bool bring_thread(struct call call)
 {
-    WakeByAddressSingle(call.calls);
+    wake_called(call.calls);
     return !call.is_new || start_in_pool(call.pool);
 }
 
