@@ -1,13 +1,8 @@
 /* What a program on POSIX would write for some of the shapes, for bench/users; or, with -DOVER_FIFO, workers at one lock in the order of arrival. */
 #include "users.h"
-#include <errno.h>
-#include <linux/futex.h>
 #include <pthread.h>
-#include <sys/syscall.h>
-#include <unistd.h>
-#if defined OVER_FIFO
+
 #include "fifo_lock.h"
-#endif
 
 static pthread_t begin_thread(void *(*what)(void *), void *with)
 {
@@ -132,7 +127,7 @@ TOGETHER(shared_4, 4, is_read())
 /* ---- Two threads hand a turn to and fro. */
 
 static pthread_cond_t CONDITIONS[2] = { PTHREAD_COND_INITIALIZER, PTHREAD_COND_INITIALIZER };
-static uint32_t volatile WANTED;
+static _Atomic uint32_t WANTED, ASLEEP;
 
 static void *turn_by_variable(void *mine)
 {
@@ -148,14 +143,21 @@ static void *turn_by_variable(void *mine)
     return NULL;
 }
 
+/* By a word: who waits looks at it before it sleeps on it, and who hands over wakes only where somebody sleeps. */
 static void *turn_by_address(void *mine)
 {
     const uint32_t me = mine != NULL;
+    struct looks looks = { 0 };
     for (uint64_t i = 0; i < ROUNDS; i++) {
-        while (__atomic_load_n(&WANTED, __ATOMIC_ACQUIRE) != me)
-            syscall(SYS_futex, &WANTED, FUTEX_WAIT_PRIVATE, !me, NULL, NULL, 0);
-        __atomic_store_n(&WANTED, !me, __ATOMIC_SEQ_CST);
-        syscall(SYS_futex, &WANTED, FUTEX_WAKE_PRIVATE, 1, NULL, NULL, 0);
+        if (!look_for(&looks, &WANTED, me)) {
+            ASLEEP++;
+            while (WANTED != me)
+                syscall(SYS_futex, &WANTED, FUTEX_WAIT_PRIVATE, !me, NULL, NULL, 0);
+            ASLEEP--;
+        }
+        WANTED = !me;
+        if (ASLEEP > 0)
+            syscall(SYS_futex, &WANTED, FUTEX_WAKE_PRIVATE, 1, NULL, NULL, 0);
     }
     return NULL;
 }
@@ -171,6 +173,111 @@ static void to_and_fro(const char *name, void *(*turn)(void *))
 
 static void variable(const char *name) { to_and_fro(name, turn_by_variable); }
 static void address(const char *name) { to_and_fro(name, turn_by_address); }
+
+/* ---- A pool: a thread for each processor, and a queue of works, each with a count of its calls, under one mutex. Of the threads that sleep only one
+   is woken at a time, and it wakes the next where there is more to do: so whoever posts mostly makes no call of the system. */
+
+enum { CALLBACKS = 1000 };
+
+struct work {
+    void (*call)(void *with);
+    void *with;
+    uint32_t to_come, running;
+    struct work *next;
+};
+
+static pthread_mutex_t POOL = PTHREAD_ADAPTIVE_MUTEX_INITIALIZER_NP;
+static pthread_cond_t POSTED = PTHREAD_COND_INITIALIZER, DONE = PTHREAD_COND_INITIALIZER;
+static struct work *FIRST, **LAST = &FIRST;
+static uint32_t SLEEPERS;
+static bool IS_WOKEN;
+
+static void append(struct work *it)
+{
+    it->next = NULL;
+    *LAST = it;
+    LAST = &it->next;
+}
+
+/* Gives the mutex back, and wakes a thread where there is something to do and none is on its way. */
+static void give_pool(void)
+{
+    const bool wakes = FIRST != NULL && SLEEPERS > 0 && !IS_WOKEN;
+    IS_WOKEN |= wakes;
+    pthread_mutex_unlock(&POOL);
+    if (wakes)
+        pthread_cond_signal(&POSTED);
+}
+
+static void post(struct work *it)
+{
+    pthread_mutex_lock(&POOL);
+    if (it->to_come++ == 0)
+        append(it);
+    give_pool();
+}
+
+static struct work *take_work(void)
+{
+    while (FIRST == NULL) {
+        SLEEPERS++;
+        pthread_cond_wait(&POSTED, &POOL);
+        SLEEPERS--;
+        IS_WOKEN = false;
+    }
+    struct work *taken = FIRST;
+    FIRST = taken->next;
+    if (FIRST == NULL)
+        LAST = &FIRST;
+    if (--taken->to_come > 0)
+        append(taken);
+    taken->running++;
+    return taken;
+}
+
+static void *work_in_pool(void *none)
+{
+    pthread_mutex_lock(&POOL);
+    for (;;) {
+        struct work *it = take_work();
+        give_pool();
+        it->call(it->with);
+        pthread_mutex_lock(&POOL);
+        if (--it->running == 0 && it->to_come == 0)
+            pthread_cond_broadcast(&DONE);
+    }
+    return none;
+}
+
+static bool is_done(struct work *it)
+{
+    for (int i = 0; i < CALLBACKS; i++)
+        post(it);
+    pthread_mutex_lock(&POOL);
+    while (it->to_come > 0 || it->running > 0)
+        pthread_cond_wait(&DONE, &POOL);
+    give_pool();
+    return true;
+}
+
+static void call_back(void *count)
+{
+    __atomic_fetch_add((uint64_t *)count, 1, __ATOMIC_RELAXED);
+}
+
+static void pool(const char *name)
+{
+    uint64_t count = 0;
+    struct work work = { call_back, &count, 0, 0, NULL };
+    for (long i = sysconf(_SC_NPROCESSORS_ONLN); i > 0; i--)
+        begin_thread(work_in_pool, NULL);
+    must(is_done(&work));
+    const struct moment began = now();
+    for (uint64_t i = 0; i < ROUNDS; i++)
+        must(is_done(&work));
+    tell_since(name, CALLBACKS * ROUNDS, began);
+    must(count == CALLBACKS * (ROUNDS + 1));
+}
 
 /* ---- Things that are made and gone; storage; time. */
 
@@ -235,6 +342,7 @@ const struct shape POSIX_SHAPES[] = {
     { "lock_64", lock_64 },
     { "variable", variable },
     { "address", address },
+    { "pool", pool },
     { "mutex_made", mutex_made },
     { "thread", thread },
     { "storage", storage },
