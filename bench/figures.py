@@ -2,6 +2,7 @@
 instructions are counted, also by function; and the counts that rows are held to, in bench/NAME.counts."""
 import collections
 import concurrent.futures
+import glob
 import json
 import os
 import re
@@ -31,12 +32,17 @@ def at_once(work, items):
 
 
 def own_of(words, **how):
-    """How many instructions each function of a program runs itself, by valgrind."""
+    """How many instructions each function runs itself in that thread of a program which runs most, by valgrind."""
     with tempfile.TemporaryDirectory() as folder:
-        counting = ["valgrind", "--tool=callgrind", f"--callgrind-out-file={folder}/counted", *words]
+        counting = ["valgrind", "--tool=callgrind", "--separate-threads=yes", f"--callgrind-out-file={folder}/counted", *words]
         subprocess.run(counting, stdout=subprocess.DEVNULL, stderr=subprocess.DEVNULL, check=True, **how)
-        with open(f"{folder}/counted", encoding="ascii", errors="replace") as file:
-            lines = file.read().splitlines()
+        return max((own_in(path) for path in glob.glob(f"{folder}/counted-*")), key=lambda it: sum(it.values()))
+
+
+def own_in(path):
+    """What callgrind wrote there of a thread: how many instructions each function runs itself."""
+    with open(path, encoding="ascii", errors="replace") as file:
+        lines = file.read().splitlines()
     names, own, function, is_callee = {}, collections.Counter(), None, False
     for line in lines:
         named = re.match(r"(c?fn)=\((\d+)\)(?: (.*))?$", line)
