@@ -100,13 +100,6 @@ NTW_INTERNAL struct task *take_members(PTP_CLEANUP_GROUP group)
     return members;
 }
 
-NTW_INTERNAL void end_group(PTP_CLEANUP_GROUP group)
-{
-    if (group->done != NULL)
-        SetEvent(group->done);
-    free(group);
-}
-
 NTW_INTERNAL bool is_without_callback(const struct task *task)
 {
     return task->running == 0 && to_come(task) == 0;

@@ -97,7 +97,6 @@ struct _TP_CLEANUP_GROUP {
 
 NTW_INTERNAL void submit(struct task *task);
 NTW_INTERNAL struct task *take_members(PTP_CLEANUP_GROUP group);
-NTW_INTERNAL void end_group(PTP_CLEANUP_GROUP group);
 NTW_INTERNAL bool is_without_callback(const struct task *task);
 NTW_INTERNAL void settle_task(struct task *task);
 NTW_INTERNAL void call_back(struct task *task, uint32_t outcome, bool in_thread);
@@ -116,6 +115,7 @@ NTW_INTERNAL BOOL end_task(struct task *task, HANDLE event);
 NTW_INTERNAL void *new_task(bool has_callback, size_t size);
 NTW_INTERNAL bool open_task(struct task *task, PVOID context, PTP_CALLBACK_ENVIRON environment);
 NTW_INTERNAL void free_task(struct task *task);
+NTW_INTERNAL void end_group(PTP_CLEANUP_GROUP group);
 
 /* ---- watch.c */
 

@@ -319,6 +319,13 @@ void CloseThreadpoolCleanupGroupMembers(PTP_CLEANUP_GROUP group, BOOL cancels, P
     }
 }
 
+NTW_INTERNAL void end_group(PTP_CLEANUP_GROUP group)
+{
+    if (group->done != NULL)
+        SetEvent(group->done);
+    free(group);
+}
+
 /* (A member that a callback has closed is in it until that has ended.) */
 void CloseThreadpoolCleanupGroup(PTP_CLEANUP_GROUP group)
 {
