@@ -1,40 +1,29 @@
 -- Lines as they are read, each in its lane.
 use Rattle.std.proofs.Common.{◌≡◌, ℕ, ◌<◌, List, [], ◌∷◌, ◌++◌, length, map, set, get_or, sym, ap, subst, ◌∙◌, ◌+◌, ◌≤◌, Option, None, Some, refl, arith, inl, inr}
-use Rattle.std.specs.Prelude.{Vec, Result, Ok, Err, IfOk, IfErr}
+use Rattle.std.specs.Prelude.{Vec, Result, Ok, Err, IfOk, IfErr, count_by}
 use Rattle.std.specs.declared.alloc.Global.{Global}
 use Rattle.std.proofs.lemmas.List.{map-set, map-append, get_or-map}
 use Rattle.nt_orders.specs.declared.lanes.Line.{Line}
-use Rattle.nt_look.specs.Orders.{Plan}
-use Rattle.nt_orders.specs.Plans.{Gone, Lanes, Texts, with_text, IsPlanOf, IsUnreadable, Read, Reads, ReadsAll, Stops, unread}
-use Rattle.nt_orders.specs.Reading.{line_bytes, texts_of, IsLaneFault, ReadSoFar, at_line, lanes_of}
+use Rattle.nt_orders.specs.Gates.{Item, MakesGate, MakesGates, Planned, is_late, lanes_with, planned_all, with_text}
+use Rattle.nt_orders.specs.Plans.{Gone, IsLaidOut, IsPlanOf, IsUnreadable, Read, Reads, ReadsAll, Stops, unread}
+use Rattle.nt_orders.specs.Reading.{line_bytes, texts_of, IsLaneFault, IsLateFault, IsScriptOf, ReadSoFar, at_line, lanes_of}
 use Rattle.nt_status.specs.declared.limits.TheConstants.{MAX_THREADS}
+use Rattle.nt_calls.specs.State.{State}
 use Rattle.nt_machine.specs.Dispatcher.{state}
 use Rattle.nt_lines.specs.Lines.{lines_of}
-use Rattle.nt_script.specs.Progress.{AreCounted, Progress, progress}
-use Rattle.nt_script.specs.declared.session.Session.{Session}
-use Rattle.nt_grammar.specs.declared.fault.ScriptFault.TheVariants.{ThreadsExpected}
+use Rattle.nt_script.specs.Progress.{AreCounted, Progress}
 use Rattle.nt_orders.specs.declared.lanes.Script.{Script}
 use Rattle.nt_orders.specs.declared.reading.LaneFault.{LaneFault}
 use Rattle.nt_orders.specs.declared.fault.OrdersFault.{OrdersFault}
 use Rattle.nt_orders.specs.Ending.{IsFirstFault}
 use Rattle.nt_grammar.specs.declared.fault.LineFault.TheVariants as line
-use Rattle.nt_script.specs.declared.fault.RunFault.TheVariants as run
 use Rattle.nt_orders.specs.declared.reading.LaneFault.TheVariants as lane
 use Rattle.nt_orders.specs.declared.fault.OrdersFault.TheVariants as orders
-
-abbrev pub lanes_with : Plan → Texts → List ℕ → Lanes
-lanes_with plan texts front = record { plan = plan; texts = texts; front = front }
-
--- lanes are the same where their parts are
-pub same_lanes : (plan plan' : Plan) (texts texts' : Texts) (front front' : List ℕ) → plan ≡ plan' → texts ≡ texts' → front ≡ front'
-    → lanes_with plan texts front ≡ lanes_with plan' texts' front'
-same_lanes plan plan' texts texts' front front' p t f =
-    ap (λ (x : Plan). lanes_with x texts front) p ∙ ap (λ (x : Texts). lanes_with plan' x front) t ∙ ap (λ (x : List ℕ). lanes_with plan' texts' x) f
 
 abbrev pub gone_with : List ℕ → List ℕ → Gone
 gone_with text at = record { text = text; at = at }
 
--- likewise how far an order was gone
+-- how far an order was gone is the same where its parts are
 pub same_gone : (text text' at at' : List ℕ) → text ≡ text' → at ≡ at' → gone_with text at ≡ gone_with text' at'
 same_gone text text' at at' t a = ap (λ (x : List ℕ). gone_with x at) t ∙ ap (λ (x : List ℕ). gone_with text' x) a
 
@@ -114,24 +103,31 @@ all_read input (byte ∷ rest) count now s none = absurd (omega (arith, none))
 
 -- ---- the script
 
--- what was read is its plan
-pub is_plan : (input : List ℕ) (now : Read) (session : Session) (lanes : Lanes) → ReadsAll 1 unread (lines_of input) now → now.seen.now ≡ Some (progress session) → lanes ≡ now.lanes
-    → IsPlanOf input lanes (state session.core)
-is_plan input now session lanes reads is same = record {
-  seen = now.seen;
-  closed = now.closed;
-  now = progress session;
-  reads = subst (λ (l : Lanes). ReadsAll 1 unread (lines_of input) (record { seen = now.seen; lanes = l; closed = now.closed })) (sym same) reads;
-  is = is;
-  start = refl;
+-- a gate more is made
+pub gate_more : (old mid new : State) (gates : List ℕ) (gate : ℕ) → MakesGates old gates mid → MakesGate mid gate new → MakesGates old (gates ++ gate ∷ []) new
+gate_more old mid new [] gate same made = (new, subst (λ (s : State). MakesGate s gate new) same made, refl)
+gate_more old mid new (first ∷ gates) gate (next, makes, rest) made = (next, makes, gate_more next mid new gates gate rest made)
+
+-- the lanes of lines whose gates were made
+pub laid_out : (start : State) (items : List Item) (front gates : List ℕ) (s : State) (threads : ℕ) (all : Planned) → MakesGates start gates s
+    → length gates ≡ count_by is_late items → threads ≡ start.threads → all ≡ planned_all threads gates items → IsLaidOut start items front (lanes_with all.laid front) s
+laid_out start items front gates s threads all made each same is = record {
+  gates = gates;
+  made = made;
+  each = each;
+  planned = ap (λ (p : Planned). lanes_with p.laid front) (is ∙ ap (λ (n : ℕ). planned_all n gates items) same);
 }
 
+-- what was read is its plan
+is_plan : (input : List ℕ) (read : Read) (script : Script) → ReadsAll 1 unread (lines_of input) read → IsScriptOf read script
+    → IsPlanOf input (lanes_of script) (state script.session.core)
+is_plan input read script reads of = record { read = read; now = of.now; reads = reads; is = of.is; laid = of.laid }
+
 -- the same of a script that is there, or not
-pub plan_if_ok : (input : List ℕ) (now : Read) (result : Result Script OrdersFault) → ReadsAll 1 unread (lines_of input) now
-    → IfOk result (λ script. now.seen.now ≡ Some (progress script.session)) → IfOk result (λ script. lanes_of script ≡ now.lanes)
-    → IfOk result (λ script. IsPlanOf input (lanes_of script) (state script.session.core))
-plan_if_ok input now (Ok script) reads is same = is_plan input now script.session (lanes_of script) reads is same
-plan_if_ok input now (Err fault) reads is same = tt
+pub plan_if_ok : (input : List ℕ) (read : Read) (result : Result Script OrdersFault) → ReadsAll 1 unread (lines_of input) read
+    → IfOk result (IsScriptOf read) → IfOk result (λ script. IsPlanOf input (lanes_of script) (state script.session.core))
+plan_if_ok input read (Ok script) reads is = is_plan input read script reads is
+plan_if_ok input read (Err fault) reads is = tt
 
 -- what stops the reading is the first fault
 pub first_fault : (input : List ℕ) (fault : OrdersFault) → Stops 1 unread (lines_of input) fault → IsFirstFault input fault
@@ -139,13 +135,14 @@ first_fault input (orders.Run fault) stops = stops
 first_fault input (orders.NoThread line) stops = stops
 first_fault input orders.Memory stops = tt
 
--- so is that there is no `threads` line
-pub lacks_threads : (input : List ℕ) (count : ℕ) (now : Read) (fault : OrdersFault) → ((fault : OrdersFault) → Stops (count + 1) now [] fault → Stops 1 unread (lines_of input) fault)
-    → now.seen.now ≡ None → fault ≡ orders.Run (run.Script (count + 1) ThreadsExpected) → IsFirstFault input fault
-lacks_threads input count now fault stops none is = first_fault input fault (stops fault (none, is))
+-- so is that there is no `threads` line; and memory may be refused
+late_fault : (input : List ℕ) (count : ℕ) (now : Read) (fault : OrdersFault) → ((fault : OrdersFault) → Stops (count + 1) now [] fault → Stops 1 unread (lines_of input) fault)
+    → IsLateFault (count + 1) now fault → IsFirstFault input fault
+late_fault input count now fault stops (inl memory) = rw memory tt
+late_fault input count now fault stops (inr (none, is)) = first_fault input fault (stops fault (none, is))
 
 -- the same where there is a script, or none
 pub fault_if_err : (input : List ℕ) (count : ℕ) (now : Read) (result : Result Script OrdersFault) → ((fault : OrdersFault) → Stops (count + 1) now [] fault → Stops 1 unread (lines_of input) fault)
-    → IfErr result (λ fault. (now.seen.now ≡ None) × (fault ≡ orders.Run (run.Script (count + 1) ThreadsExpected))) → IfErr result (IsFirstFault input)
+    → IfErr result (IsLateFault (count + 1) now) → IfErr result (IsFirstFault input)
 fault_if_err input count now (Ok script) stops is = tt
-fault_if_err input count now (Err fault) stops is = lacks_threads input count now fault stops is.0 is.1
+fault_if_err input count now (Err fault) stops is = late_fault input count now fault stops is

@@ -11,11 +11,11 @@ use Rattle.nt_explore.specs.declared.search.Explored.{Explored}
 use Rattle.nt_explore.proofs.Ways.{begins_wide}
 use Rattle.nt_explore.proofs.Walks.{deeper, goes_wide, start_low}
 use Rattle.nt_orders.specs.Ending.{EndsEarly, IsCutOff, IsSearched, TellsOrdersFault}
-use Rattle.nt_orders.specs.Plans.{Lanes}
+use Rattle.nt_orders.specs.Gates.{Lanes}
 use Rattle.nt_orders.specs.declared.fault.OrdersFault.{OrdersFault}
 use Rattle.nt_orders.specs.Progress.{IsTold, TellsCourse, TellsLook}
 use Rattle.nt_orders.specs.declared.progress.Progress.{Progress}
-use Rattle.nt_orders.specs.Faults.{order_message, order_status}
+use Rattle.nt_orders.specs.Texts.{order_message, order_status}
 use Rattle.nt_orders.specs.declared.fault.OrdersFault.TheVariants as orders
 
 -- After n looks, with so many states met: the next ones lie this deep, and those from `end` on a step deeper.

@@ -12,9 +12,10 @@ use Rattle.nt_script.specs.Running.{Has}
 use Rattle.nt_lines.specs.Lines.{lines_of}
 use Rattle.nt_hangs.specs.Ending.{SaysMemory, Shows}
 use Rattle.nt_hangs.specs.Watching.{before_zero}
-use Rattle.nt_orders.specs.Faults.{order_message, order_status}
+use Rattle.nt_orders.specs.Texts.{order_message, order_status}
 use Rattle.nt_look.specs.Orders.{steps}
-use Rattle.nt_orders.specs.Plans.{IsPlanOf, Lanes, Stops, order_text, unread}
+use Rattle.nt_orders.specs.Gates.{Lanes}
+use Rattle.nt_orders.specs.Plans.{IsPlanOf, Stops, order_text, unread}
 use Rattle.nt_orders.specs.Progress.{TellsCourse}
 use Rattle.nt_orders.specs.declared.fault.OrdersFault.{OrdersFault}
 use Rattle.nt_orders.specs.declared.report.Findings.{Findings}

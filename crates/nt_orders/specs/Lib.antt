@@ -1,5 +1,5 @@
-pub mod Faults
-pub mod Rows
+pub mod Texts
+pub mod Gates
 pub mod Plans
 pub mod Reading
 pub mod Progress

@@ -1,21 +1,25 @@
--- A script's lines as a plan: what is made before all calls, and what each lane is to do.
-use Rattle.std.specs.Prelude.{◌≡◌, ◌⊎◌, ℕ, ◌+◌, ◌<◌, ◌==◌, ◌||◌, ◌++◌, Bool, true, false, not, nat_le, List, [], ◌∷◌, length, replicate, slice_set, slice_index_or, Option, None, Some, is_some, if◌then◌else◌}
-use Rattle.std.specs.List.{fold}
+-- A script's lines as they are read: what is made before all calls, and which lines go when their lanes do; and then as a plan.
+use Rattle.std.specs.Prelude.{◌≡◌, ◌⊎◌, ℕ, ◌+◌, ◌<◌, ◌==◌, ◌++◌, Bool, true, false, not, nat_le, List, [], ◌∷◌, length, count_by, slice_set, slice_index_or, replicate, Option, None, Some, is_some, if◌then◌else◌}
+use Rattle.std.specs.List.{fold, list_any}
 use Rattle.nt_calls.specs.State.{State}
 use Rattle.nt_calls.specs.declared.call.Act.{Act}
 use Rattle.nt_calls.specs.declared.call.Call.{Call}
 use Rattle.nt_tables.specs.Handles.{opened_at}
-use Rattle.nt_look.specs.Orders.{Ask, Calls, Passes, Plan, asks}
+use Rattle.nt_look.specs.Orders.{Ask, Calls, Passes}
 use Rattle.nt_lines.specs.Lines.{lines_of}
 use Rattle.nt_script.specs.Progress.{Progress, scope_of}
 use Rattle.nt_grammar.specs.Lines.{FaultIn, IsLine}
+use Rattle.nt_grammar.specs.Scope.{handle_in}
 use Rattle.nt_grammar.specs.declared.fault.ScriptFault.TheVariants.{ThreadsExpected}
 use Rattle.nt_script.specs.declared.fault.RunFault.TheVariants as run
 use Rattle.nt_grammar.specs.declared.parser.Statement.{Statement}
 use Rattle.nt_grammar.specs.declared.parser.Statement.TheVariants.{Blank, Create, Perform, Tick}
-use Rattle.nt_hangs.specs.Watching.{Seen, Sees, unseen}
+use Rattle.nt_hangs.specs.Watching.{Seen, Sees, names_of, unseen}
+use Rattle.nt_orders.specs.Gates.{Item, Lanes, MakesGates, Texts, is_late, planned}
+use Rattle.nt_orders.specs.Gates as gates
 use Rattle.nt_orders.specs.declared.fault.OrdersFault.{OrdersFault}
 use Rattle.nt_orders.specs.declared.fault.OrdersFault.TheVariants as orders
+use Rattle.nt_orders.specs.declared.items.Creation.{Creation}
 
 -- ---- what is made before all calls
 
@@ -27,7 +31,7 @@ source_of act = None
 -- it is one of these
 abbrev pub is_among : List ℕ → Option ℕ → Bool
 is_among handles None = false
-is_among handles (Some handle) = fold (λ found it. found || (it == handle)) false handles
+is_among handles (Some handle) = list_any (λ it. it == handle) handles
 
 -- the statement creates something, but for a duplicate of one of these closed handles; or it says nothing
 abbrev pub is_of_start : List ℕ → Statement → Bool
@@ -48,58 +52,22 @@ abbrev pub IsLineThat : Option Progress → (Statement → Bool) → List ℕ �
 IsLineThat None is bytes = ⊥
 IsLineThat (Some now) is bytes = (statement : Statement) × IsLine now.scope statement bytes × (is statement ≡ true)
 
--- The line is carried out before all calls, wherever it stands: one up to the `threads` line; or one that creates something or says nothing.
-abbrev pub IsOfStart : Option Progress → List ℕ → List ℕ → Type 0
-IsOfStart None closed bytes = Unit {0}
-IsOfStart (Some now) closed bytes = IsLineThat (Some now) (is_of_start closed) bytes
+-- whose creation a statement is, and what it makes another handle of
+abbrev pub creation_of : Statement → Option Creation
+creation_of Blank = None
+creation_of (Create who name act) = Some (record { who = who; source = source_of act })
+creation_of (Perform who call) = None
+creation_of (Tick moment) = None
+
+-- The line is carried out before all calls, wherever it stands: one up to the `threads` line; or one that says nothing, or creates something.
+abbrev pub IsOfStart : Option Progress → List ℕ → List ℕ → Option Creation → Type 0
+IsOfStart None closed bytes creation = creation ≡ None
+IsOfStart (Some now) closed bytes creation =
+    (statement : Statement) × IsLine now.scope statement bytes × (is_of_start closed statement ≡ true) × (creation ≡ creation_of statement)
 
 -- a line as it stands, with an LF
 abbrev pub whole_line : List ℕ → List ℕ
 whole_line bytes = bytes ++ 10 ∷ []
-
--- ---- the lanes
-
--- by lane, its lines, each as it stands
-abbrev pub Texts : Type 0
-Texts = List (List (List ℕ))
-
--- what each lane is to do, the lines that tell it, and the text of the lines that stand in front of them
-pub record Lanes : Type 0 where
-  pub plan : Plan
-  pub texts : Texts
-  pub front : List ℕ
-
--- the plan, with this as the last in the lane
-abbrev pub with_ask : Plan → ℕ → Ask → Plan
-with_ask plan lane ask = slice_set plan lane (asks plan lane ++ ask ∷ [])
-
--- the texts, with this line as the last in the lane
-abbrev pub with_text : Texts → ℕ → List ℕ → Texts
-with_text texts lane bytes = slice_set texts lane (slice_index_or texts lane [] ++ bytes ∷ [])
-
--- the lanes, with this as the last that the lane is to do, as this line tells
-abbrev pub with_line : Lanes → ℕ → Ask → List ℕ → Lanes
-with_line lanes lane ask bytes =
-    record { plan = with_ask lanes.plan lane ask; texts = with_text lanes.texts lane bytes; front = lanes.front }
-
--- the lanes, with this line as the last in front of them
-abbrev pub with_front : Lanes → List ℕ → Lanes
-with_front lanes bytes = record { plan = lanes.plan; texts = lanes.texts; front = lanes.front ++ whole_line bytes }
-
--- so many threads that do nothing yet, after this text
-abbrev pub opened_lanes : ℕ → List ℕ → Lanes
-opened_lanes threads front = record { plan = replicate (threads + 1) []; texts = replicate (threads + 1) []; front = front }
-
--- how many threads there are, once the `threads` line was carried out
-abbrev pub threads_of : Option Progress → Option ℕ
-threads_of None = None
-threads_of (Some now) = Some now.state.threads
-
--- a line in front of the lanes; that from which on there are threads opens them
-abbrev pub in_front : (old new : Option ℕ) → List ℕ → Lanes → Lanes
-in_front None None bytes lanes = with_front lanes bytes
-in_front None (Some threads) bytes lanes = opened_lanes threads (lanes.front ++ whole_line bytes)
-in_front (Some old) new bytes lanes = with_front lanes bytes
 
 -- What a statement asks of a lane, where there are so many threads: a call is asked of its caller's, a tick of the lane after theirs.
 abbrev pub AsksOf : ℕ → Statement → ℕ → Ask → Type 0
@@ -115,15 +83,17 @@ IsOfLane (Some now) bytes lane ask = (statement : Statement) × IsLine now.scope
 
 -- ---- all lines
 
--- how far a script was read: what was carried out before all calls, the lanes so far, and the handles that their lines close
+-- how far a script was read: what was carried out before all calls, the text of these lines, those that go when their lanes do, and the handles
+-- that these close
 pub record Read : Type 0 where
   pub seen : Seen
-  pub lanes : Lanes
+  pub front : List ℕ
+  pub items : List Item
   pub closed : List ℕ
 
 -- nothing was read yet
 abbrev pub unread : Read
-unread = record { seen = unseen; lanes = opened_lanes 0 []; closed = [] }
+unread = record { seen = unseen; front = []; items = []; closed = [] }
 
 -- the handle that is closed so
 abbrev pub closed_by : Ask → Option ℕ
@@ -140,40 +110,65 @@ abbrev pub with_closed : Option Progress → List ℕ → Option ℕ → List �
 with_closed now closed None = closed
 with_closed now closed (Some handle) = if is_open now handle then closed ++ handle ∷ [] else closed
 
--- A line is carried out before all calls, and stands in front of the lanes.
+-- the handle that a creation between these gave a name, if it was not refused
+abbrev pub given : (old new : Option Progress) → Option ℕ
+given old new = handle_in (names_of new) (length (names_of old))
+
+-- the creation on this line, with the handle that it gave
+abbrev pub made_on : ℕ → List ℕ → Option Creation → Option ℕ → List Item
+made_on number bytes None handle = []
+made_on number bytes (Some creation) None = []
+made_on number bytes (Some creation) (Some handle) =
+    record { number = number; bytes = bytes; lane = creation.who; does = gates.Makes handle creation.source } ∷ []
+
+-- these lines, and a creation after them: it goes when its lane does if a call or a tick stands above it
+abbrev pub with_made : List Item → List Item → List Item
+with_made [] made = []
+with_made (item ∷ items) made = (item ∷ items) ++ made
+
+-- A line is carried out before all calls; a creation may go when its lane does, too.
 pub record IsInFront (number : ℕ) (bytes : List ℕ) (old new : Read) : Type 0 where
-  pub line : IsOfStart old.seen.now old.closed bytes
+  pub creation : Option Creation
+  pub line : IsOfStart old.seen.now old.closed bytes creation
   pub sees : Sees number bytes old.seen new.seen
-  pub lanes : new.lanes ≡ in_front (threads_of old.seen.now) (threads_of new.seen.now) bytes old.lanes
+  pub front : new.front ≡ old.front ++ whole_line bytes
+  pub items : new.items ≡ with_made old.items (made_on number bytes creation (given old.seen.now new.seen.now))
   pub closed : new.closed ≡ old.closed
 
--- A line is the next of its lane.
-pub record IsInLane (bytes : List ℕ) (old new : Read) : Type 0 where
+-- A line goes when its lane does.
+pub record IsInLane (number : ℕ) (bytes : List ℕ) (old new : Read) : Type 0 where
   pub lane : ℕ
   pub ask : Ask
   pub line : IsOfLane old.seen.now bytes lane ask
   pub seen : new.seen ≡ old.seen
-  pub lanes : new.lanes ≡ with_line old.lanes lane ask bytes
+  pub front : new.front ≡ old.front
+  pub items : new.items ≡ old.items ++ record { number = number; bytes = bytes; lane = lane; does = gates.Asks ask } ∷ []
   pub closed : new.closed ≡ with_closed old.seen.now old.closed (closed_by ask)
 
--- The line with this number is read: it is carried out before all calls, or joins its lane, or is left out.
+-- The line with this number is read: it is carried out before all calls, or goes when its lane does, or is left out.
 abbrev pub Reads : ℕ → List ℕ → Read → Read → Type 0
 Reads number bytes old new =
-    IsInFront number bytes old new ⊎ (IsInLane bytes old new ⊎ (IsLineThat old.seen.now (is_left_out old.closed) bytes × (new ≡ old)))
+    IsInFront number bytes old new ⊎ (IsInLane number bytes old new ⊎ (IsLineThat old.seen.now (is_left_out old.closed) bytes × (new ≡ old)))
 
 -- These lines, from this number on, are read, one after another.
 abbrev pub ReadsAll : ℕ → Read → List (List ℕ) → Read → Type 0
 ReadsAll number old [] new = new ≡ old
 ReadsAll number old (bytes ∷ lines) new = (mid : Read) × Reads number bytes old mid × ReadsAll (number + 1) mid lines new
 
--- The script in these bytes is these lanes, from the state to which those of its lines come that are carried out before all calls.
+-- In the state to which what a script creates leads, a gate is made for each late creation. These are the lanes of its lines then, and that the state.
+pub record IsLaidOut (start : State) (items : List Item) (front : List ℕ) (lanes : Lanes) (s : State) : Type 0 where
+  pub gates : List ℕ
+  pub made : MakesGates start gates s
+  pub each : length gates ≡ count_by is_late items
+  pub planned : lanes ≡ planned start.threads gates front items
+
+-- The script in these bytes is these lanes, from this state.
 pub record IsPlanOf (input : List ℕ) (lanes : Lanes) (s : State) : Type 0 where
-  pub seen : Seen
-  pub closed : List ℕ
+  pub read : Read
   pub now : Progress
-  pub reads : ReadsAll 1 unread (lines_of input) (record { seen = seen; lanes = lanes; closed = closed })
-  pub is : seen.now ≡ Some now
-  pub start : s ≡ now.state
+  pub reads : ReadsAll 1 unread (lines_of input) read
+  pub is : read.seen.now ≡ Some now
+  pub laid : IsLaidOut now.state read.items read.front lanes s
 
 -- ---- an order as a script
 

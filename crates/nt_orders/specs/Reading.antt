@@ -1,5 +1,5 @@
 -- How a script is read, line by line. No public clause cites this.
-use Rattle.std.specs.Prelude.{◌≡◌, ℕ, ◌+◌, ◌≤◌, List, length, map, true, Vec, Option, Result, Ok, Err}
+use Rattle.std.specs.Prelude.{◌≡◌, ◌⊎◌, ℕ, ◌+◌, ◌≤◌, ◌++◌, List, [], ◌∷◌, length, map, true, Vec, Option, None, Some, Result, Ok, Err}
 use Rattle.std.specs.declared.alloc.Global.{Global}
 use Rattle.nt_status.specs.declared.limits.TheConstants.{MAX_THREADS}
 use Rattle.nt_lines.specs.Lines.{lines_of}
@@ -11,6 +11,9 @@ use Rattle.nt_script.specs.declared.fault.RunFault.TheVariants as run
 use Rattle.nt_grammar.specs.declared.parser.Statement.{Statement}
 use Rattle.nt_hangs.specs.Steps.{LineHasFault}
 use Rattle.nt_hangs.specs.Watching.{seen_of}
+use Rattle.nt_look.specs.Orders.{Ask}
+use Rattle.nt_machine.specs.Dispatcher.{state}
+use Rattle.nt_grammar.specs.declared.fault.ScriptFault.TheVariants.{ThreadsExpected}
 use Rattle.nt_lanes.specs.Lanes.{asked}
 use Rattle.nt_orders.specs.declared.fault.OrdersFault.{OrdersFault}
 use Rattle.nt_orders.specs.declared.fault.OrdersFault.TheVariants as orders
@@ -21,7 +24,14 @@ use Rattle.nt_orders.specs.declared.reading.Found.TheVariants as found
 use Rattle.nt_orders.specs.declared.reading.LaneFault.{LaneFault}
 use Rattle.nt_orders.specs.declared.reading.LaneFault.TheVariants as lane
 use Rattle.nt_orders.specs.declared.reading.Reading.{Reading}
-use Rattle.nt_orders.specs.Plans.{AsksOf, Gone, IsLineThat, IsOfLane, IsOfNobody, IsOfStart, Lanes, Read, ReadsAll, Stops, Texts, is_left_out, is_of_nobody, is_of_start, unread}
+use Rattle.nt_orders.specs.declared.items.Does as kept_does
+use Rattle.nt_orders.specs.declared.items.Does.TheVariants as does
+use Rattle.nt_orders.specs.declared.items.Item as kept_item
+use Rattle.nt_orders.specs.declared.laying.Laid as kept_laid
+use Rattle.nt_orders.specs.declared.planning.Planned as kept_planned
+use Rattle.nt_orders.specs.Gates as gates
+use Rattle.nt_orders.specs.Gates.{Does, Item, Laid, Lanes, Planned, Texts}
+use Rattle.nt_orders.specs.Plans.{AsksOf, Gone, IsLaidOut, IsLineThat, IsOfLane, IsOfNobody, IsOfStart, Read, ReadsAll, Stops, creation_of, is_left_out, is_of_nobody, is_of_start, unread}
 
 -- a line as it stands
 abbrev pub line_bytes : Line → List ℕ
@@ -35,13 +45,31 @@ texts_of lines = map (λ lane. map line_bytes lane.items) lines
 abbrev pub lanes_of : Script → Lanes
 lanes_of script = record { plan = script.plan; texts = texts_of script.lines.items; front = script.front.items }
 
+-- what a line does when its lane goes
+abbrev pub does_of : kept_does.Does → Does
+does_of (does.Asks ask) = gates.Asks (asked ask)
+does_of (does.Makes handle source) = gates.Makes handle source
+
+-- such a line
+abbrev pub item_of : kept_item.Item → Item
+item_of item = record { number = item.line.number; bytes = item.line.bytes.items; lane = item.lane; does = does_of item.does }
+
 -- how far a script was read
 abbrev pub read_of : Reading → Read
 read_of reading = record {
   seen = seen_of reading.watch;
-  lanes = record { plan = reading.plan; texts = texts_of reading.lines.items; front = reading.front.items };
+  front = reading.front.items;
+  items = map item_of reading.items.items;
   closed = reading.closed.items;
 }
+
+-- the lanes as they are laid out
+abbrev pub laid_of : kept_laid.Laid → Laid
+laid_of laid = record { plan = laid.plan; texts = texts_of laid.lines.items; passed = laid.passed.items }
+
+-- what was planned so far
+abbrev pub planned_of : kept_planned.Planned → Planned
+planned_of planned = record { laid = laid_of planned.laid; above = planned.above.items }
 
 -- how far an order was gone: the text so far, and how many lines of each lane
 abbrev pub gone : Vec ℕ Global → List ℕ → Gone
@@ -62,7 +90,7 @@ at_line number lane.NoThread = orders.NoThread number
 
 -- the statement is carried out before all calls, or left out, or asks this of this lane, or is of no lane
 abbrev pub IsFoundOf : ℕ → List ℕ → Statement → Result Found LaneFault → Type 0
-IsFoundOf threads closed statement (Ok found.Start) = is_of_start closed statement ≡ true
+IsFoundOf threads closed statement (Ok (found.Start creation)) = (is_of_start closed statement ≡ true) × (creation ≡ creation_of statement)
 IsFoundOf threads closed statement (Ok found.Nothing) = is_left_out closed statement ≡ true
 IsFoundOf threads closed statement (Ok (found.Asks place ask)) = AsksOf threads statement place (asked ask)
 IsFoundOf threads closed statement (Err (lane.Line fault)) = ⊥
@@ -75,10 +103,26 @@ IsLaneFault now bytes lane.NoThread = IsOfNobody now bytes
 
 -- the line is carried out before all calls, or left out, or asks this of this lane, or can't be read
 abbrev pub Finds : Option Progress → List ℕ → List ℕ → Result Found LaneFault → Type 0
-Finds now closed bytes (Ok found.Start) = IsOfStart now closed bytes
+Finds now closed bytes (Ok (found.Start creation)) = IsOfStart now closed bytes creation
 Finds now closed bytes (Ok found.Nothing) = IsLineThat now (is_left_out closed) bytes
 Finds now closed bytes (Ok (found.Asks place ask)) = IsOfLane now bytes place (asked ask)
 Finds now closed bytes (Err fault) = IsLaneFault now bytes fault
+
+-- this is the last of the lines that go when their lanes do, and asks this
+abbrev pub IsLast : List Item → (number : ℕ) → (bytes : List ℕ) → (lane : ℕ) → Ask → List Item → Type 0
+IsLast old number bytes lane ask new = new ≡ old ++ record { number = number; bytes = bytes; lane = lane; does = gates.Asks ask } ∷ []
+
+-- ---- all lines
+
+-- what was read so is this script
+pub record IsScriptOf (read : Read) (script : Script) : Type 0 where
+  pub now : Progress
+  pub is : read.seen.now ≡ Some now
+  pub laid : IsLaidOut now.state read.items read.front (lanes_of script) (state script.session.core)
+
+-- why there is no script once all lines before this one were read: memory was refused, or there is no `threads` line
+abbrev pub IsLateFault : ℕ → Read → OrdersFault → Type 0
+IsLateFault number read fault = (fault ≡ orders.Memory) ⊎ ((read.seen.now ≡ None) × (fault ≡ orders.Run (run.Script number ThreadsExpected)))
 
 -- ---- the lines so far
 

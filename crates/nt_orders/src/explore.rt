@@ -16,6 +16,7 @@ use std::rt::Files;
 const HANGS: u8 = 3;
 
 /// Says why the orders are not explored, and answers the exit status.
+#[tactic(auto, using(crate::proofs::Telling::told_fault))]
 fn tell<E: Sink>(alloc: Global, fault: OrdersFault, errors: &mut E) -> u8
     ensures { TellsOrdersFault fault (E.seen errors.old) (E.seen errors.new) result }
 {

@@ -1,7 +1,7 @@
 //! Why a script's orders are not explored.
 ghost use Rattle.std.specs.Prelude.{◌≡◌, ◌++◌, IfOk, OnOk, codes, decimal};
 ghost use Rattle.nt_orders.specs.Reading.{IsFaultAt};
-ghost use Rattle.nt_orders.specs.Faults.{order_line, line_text, order_message, order_reason, order_status};
+ghost use Rattle.nt_orders.specs.Texts.{order_line, fault_line_text, order_message, order_reason, order_status};
 
 use nt_grammar::LineFault;
 use nt_script::RunFault;
@@ -76,7 +76,7 @@ fn put_line(out: &mut Vec<u8>, line: u64) -> Result<(), AllocError>
 
 /// Puts the number of the line, if there is one.
 fn put_line_of(out: &mut Vec<u8>, line: Option<u64>) -> Result<(), AllocError>
-    ensures { OnOk result (out.new.items ≡ out.old.items ++ line_text line) }
+    ensures { OnOk result (out.new.items ≡ out.old.items ++ fault_line_text line) }
 {
     match line {
         Some(line) => put_line(out, line),

@@ -1,8 +1,10 @@
 //! The lines of a script, by lanes.
-ghost use Rattle.std.specs.Prelude.{◌≡◌, [], replicate, IfOk, OnOk};
-ghost use Rattle.nt_orders.specs.Plans.{with_text};
+ghost use Rattle.std.specs.Prelude.{◌≡◌, ◌++◌, [], replicate, IfOk, OnOk};
+ghost use Rattle.nt_orders.specs.Gates.{with_text};
+ghost use Rattle.nt_orders.specs.Plans.{whole_line};
 ghost use Rattle.nt_orders.specs.Reading.{texts_of};
 
+use crate::laying::Made;
 use nt_explore::Plan;
 use nt_lines::{first_word, text_of};
 use nt_script::Session;
@@ -31,6 +33,8 @@ pub struct Script {
     pub(crate) lines: Vec<Vec<Line>>,
     /// The lines of no lane, as they stand: those up to the `threads` line, creations, and what says nothing.
     pub(crate) front: Vec<u8>,
+    /// The late creations, with their gates.
+    pub(crate) above: Vec<Made>,
 }
 
 /// Puts the words of a text, with a space between two.
@@ -60,7 +64,7 @@ fn words_of(alloc: Global, line: &[u8]) -> Result<Vec<u8>, AllocError> {
 
 /// A line of a lane, with this number.
 pub(crate) fn line_of(alloc: Global, number: u64, line: &[u8]) -> Result<Line, AllocError>
-    ensures { IfOk result (λ made. made.bytes.items ≡ line.now) }
+    ensures { IfOk result (λ made. (made.number ≡ number) × (made.bytes.items ≡ line.now)) }
 {
     Ok(Line {
         number,
@@ -81,6 +85,7 @@ pub(crate) fn no_lines(alloc: Global, count: usize) -> Result<Vec<Vec<Line>>, Al
 }
 
 /// Puts the line last in its lane, if there is that lane.
+#[tactic(auto, using(crate::proofs::Lines::texts_added))]
 pub(crate) fn push_line(lines: &mut Vec<Vec<Line>>, lane: u32, line: Line) -> Result<(), AllocError>
     ensures { OnOk result (texts_of lines.new.items
         ≡ with_text (texts_of lines.old.items) lane line.bytes.items) }
@@ -90,4 +95,12 @@ pub(crate) fn push_line(lines: &mut Vec<Vec<Line>>, lane: u32, line: Line) -> Re
     }
     lines[lane as usize].push(line)?;
     Ok(())
+}
+
+/// Puts a line as it stands, with an LF.
+pub(crate) fn put_whole(out: &mut Vec<u8>, line: &[u8]) -> Result<(), AllocError>
+    ensures { OnOk result (out.new.items ≡ out.old.items ++ whole_line line.now) }
+{
+    out.extend_from_slice(line)?;
+    out.extend_from_slice(b"\n")
 }

@@ -1,26 +1,27 @@
 //! A script is read, line by line.
-ghost use Rattle.std.specs.Prelude.{◌≡◌, ◌+◌, ◌<◌, ◌≤◌, ◌^◌, ℕ, List, [], None, Some, Ok, length, IfErr, IfOk, OnOk};
+ghost use Rattle.std.specs.List.{list_any};
+ghost use Rattle.std.specs.Prelude.{◌≡◌, ◌==◌, ◌+◌, ◌<◌, ◌≤◌, ◌^◌, ◌++◌, ◌∷◌, ℕ, List, [], None, Some, length, map, IfErr, IfOk, OnOk};
 ghost use Rattle.nt_status.specs.declared.limits.TheConstants.{MAX_THREADS};
 ghost use Rattle.nt_machine.specs.Dispatcher.{state};
 ghost use Rattle.nt_lines.specs.Lines.{lines_of};
-ghost use Rattle.nt_script.specs.Progress.{AreCounted, progress};
+ghost use Rattle.nt_script.specs.Progress.{AreCounted};
 ghost use Rattle.nt_hangs.specs.Steps.{LineHasFault};
-ghost use Rattle.nt_hangs.specs.Watching.{Sees, seen_of};
+ghost use Rattle.nt_hangs.specs.Watching.{Sees, names_of, seen_of};
+ghost use Rattle.nt_grammar.specs.Scope.{handle_in};
 ghost use Rattle.nt_lanes.specs.Lanes.{asked};
-ghost use Rattle.nt_script.specs.declared.fault.RunFault.TheVariants as run;
-ghost use Rattle.nt_grammar.specs.declared.fault.ScriptFault.TheVariants.{ThreadsExpected};
-ghost use Rattle.nt_orders.specs.declared.fault.OrdersFault.{OrdersFault};
-ghost use Rattle.nt_orders.specs.declared.fault.OrdersFault.TheVariants as orders;
+ghost use Rattle.nt_script.specs.Progress.{progress};
 ghost use Rattle.nt_orders.specs.Ending.{IsFirstFault};
-ghost use Rattle.nt_orders.specs.Plans.{IsPlanOf, Reads, ReadsAll, Stops, in_front, opened_lanes, threads_of, unread, with_line};
-ghost use Rattle.nt_orders.specs.Plans.{closed_by, is_among, is_open, source_of, with_closed};
-ghost use Rattle.nt_orders.specs.Reading.{Finds, IsFoundOf, IsLaneFault, at_line, lanes_of, read_of};
+ghost use Rattle.nt_orders.specs.Plans.{IsLaidOut, IsPlanOf, Reads, ReadsAll, Stops, closed_by, given, is_among, is_open, made_on, source_of, unread, whole_line, with_closed, with_made};
+ghost use Rattle.nt_orders.specs.Reading.{Finds, IsFoundOf, IsLaneFault, IsLast, IsLateFault, IsScriptOf, at_line, item_of, lanes_of, read_of};
 
 use crate::fault::{OrdersFault, fault_at};
-use crate::lanes::{Line, Script, line_of, no_lines, push_line};
-use crate::text::put_whole;
+use crate::items::{Creation, Does, Item};
+use crate::lanes::{Script, line_of, put_whole};
+use crate::laying::Laid;
+use crate::planning::{Planned, count_late, make_gates, plan_all};
 use nt_calls::{Act, Call};
-use nt_explore::{Ask, Plan};
+use nt_core::Core;
+use nt_explore::Ask;
 use nt_grammar::{LineFault, ScriptFault, Statement};
 use nt_hangs::Watch;
 use nt_lines::MAX_LINE;
@@ -34,12 +35,11 @@ use std::alloc::{AllocError, Global};
 pub(crate) struct Reading {
     /// What was carried out before all calls.
     watch: Watch,
-    plan: Plan,
-    /// By lane, the lines that the plan's asks stand on.
-    lines: Vec<Vec<Line>>,
     /// The lines that were carried out, as they stand.
     front: Vec<u8>,
-    /// The handles that lines of lanes close.
+    /// The lines that go when their lanes do.
+    items: Vec<Item>,
+    /// The handles that these lines close.
     closed: Vec<Handle>,
 }
 
@@ -63,8 +63,8 @@ fn orders_fault_at(line: u64, fault: LaneFault) -> OrdersFault
 /// What a line is.
 #[derive(Drop)]
 pub(crate) enum Found {
-    /// It is carried out before all calls.
-    Start,
+    /// It is carried out before all calls, and may be a creation.
+    Start(Option<Creation>),
     /// It is left out.
     Nothing,
     /// It asks this of the lane with this number.
@@ -91,18 +91,28 @@ fn closed_by(ask: &Ask) -> Option<Handle>
     }
 }
 
+/// Whether the handle is one of these.
+fn is_one_of(handles: &[Handle], handle: Handle) -> bool
+    ensures { result ≡ list_any (λ it. it == handle) handles.now }
+{
+    handles.iter().any(|it| *it == handle)
+}
+
 /// Whether the handle, if there is one, is one of these.
 fn is_among(handles: &[Handle], sought: Option<Handle>) -> bool
     ensures { result ≡ is_among handles.now sought }
 {
-    let Some(handle) = sought else {
-        return false;
-    };
-    let mut found = false;
-    for it in handles {
-        found = found || it.get() == handle.get();
+    match sought {
+        Some(handle) => is_one_of(handles, handle),
+        None => false,
     }
-    found
+}
+
+/// Whether the creation makes another one of these handles.
+fn is_left_out(closed: &[Handle], creation: &Creation) -> bool
+    ensures { result ≡ is_among closed.now creation.now.source }
+{
+    is_among(closed, creation.source)
 }
 
 /// What a statement is, after lines that close these handles.
@@ -110,16 +120,20 @@ fn found_of(statement: Statement, threads: u32, closed: &[Handle]) -> Result<Fou
     ensures { IsFoundOf threads closed.now statement result }
 {
     match statement {
-        Statement::Blank => Ok(Found::Start),
+        Statement::Blank => Ok(Found::Start(None)),
         Statement::Create {
+            who,
             name: _name,
             act,
-            ..
         } => {
-            if is_among(closed, source_of(act)) {
+            let creation = Creation {
+                who,
+                source: source_of(act),
+            };
+            if is_left_out(closed, &creation) {
                 Ok(Found::Nothing)
             } else {
-                Ok(Found::Start)
+                Ok(Found::Start(Some(creation)))
             }
         }
         Statement::Perform { who, call } => {
@@ -157,7 +171,7 @@ fn find(watch: &Watch, alloc: Global, closed: &[Handle], line: &[u8]) -> Result<
 {
     match watch.session() {
         Some(session) => find_in(session, alloc, closed, line),
-        None => Ok(Found::Start),
+        None => Ok(Found::Start(None)),
     }
 }
 
@@ -188,14 +202,44 @@ fn note_closed(
     Ok(())
 }
 
-/// How many threads there are, once the `threads` line was carried out.
-fn threads_in(watch: &Watch) -> Option<u32>
-    ensures { result ≡ threads_of (seen_of watch.now).now }
+/// How many names are bound.
+fn names_bound(watch: &Watch) -> usize
+    ensures { result ≡ length (names_of (seen_of watch.now).now) }
 {
     match watch.session() {
-        Some(session) => Some(session.core().threads()),
+        Some(session) => session.names(),
+        None => 0,
+    }
+}
+
+/// The handle of the name at this place, if it is bound.
+fn handle_at(watch: &Watch, place: usize) -> Option<Handle>
+    ensures { result ≡ handle_in (names_of (seen_of watch.now).now) place }
+{
+    match watch.session() {
+        Some(session) => session.handle_at(place),
         None => None,
     }
+}
+
+/// The creation on this line, which gave this handle.
+fn made_on(
+    alloc: Global,
+    number: u64,
+    bytes: &[u8],
+    creation: Creation,
+    handle: Handle,
+) -> Result<Item, AllocError>
+    ensures { IfOk result (λ item. item_of item ∷ [] ≡ made_on number bytes.now (Some creation) (Some handle)) }
+{
+    Ok(Item {
+        lane: creation.who,
+        line: line_of(alloc, number, bytes)?,
+        does: Does::Makes {
+            handle,
+            source: creation.source,
+        },
+    })
 }
 
 impl Reading {
@@ -203,71 +247,106 @@ impl Reading {
     fn new(alloc: Global) -> Result<Reading, AllocError>
         ensures { IfOk result (λ reading. read_of reading ≡ unread) }
     {
-        let watch = Watch::new(alloc)?;
-        let plan = Plan::new(alloc, 0)?;
-        let lines = no_lines(alloc, 1)?;
         Ok(Reading {
-            watch,
-            plan,
-            lines,
+            watch: Watch::new(alloc)?,
             front: Vec::new(alloc),
+            items: Vec::new(alloc),
             closed: Vec::new(alloc),
         })
     }
 
-    /// Opens the lanes of so many threads, and one for the ticks.
-    fn open(&mut self, alloc: Global, threads: u32) -> Result<(), AllocError>
-        ensures lanes { OnOk result ((read_of self.new).lanes ≡ opened_lanes threads self.old.front.items) }
+    /// Has a creation on this line go when its lane does, if there is one above it that does. It gave this handle.
+    fn note_made(
+        &mut self,
+        alloc: Global,
+        number: u64,
+        bytes: &[u8],
+        creation: Option<Creation>,
+        handle: Option<Handle>,
+    ) -> Result<(), AllocError>
+        ensures items { OnOk result ((read_of self.new).items
+            ≡ with_made (read_of self.old).items (made_on number bytes.now creation handle)) }
         ensures watch { self.new.watch ≡ self.old.watch }
+        ensures front { self.new.front ≡ self.old.front }
         ensures closed { self.new.closed ≡ self.old.closed }
     {
-        self.plan = Plan::new(alloc, threads)?;
-        self.lines = no_lines(alloc, threads as usize + 1)?;
+        if self.items.is_empty() {
+            return Ok(());
+        }
+        if let (Some(creation), Some(handle)) = (creation, handle) {
+            self.items
+                .push(made_on(alloc, number, bytes, creation, handle)?)?;
+        }
         Ok(())
     }
 
-    /// Puts a line that was carried out in front of the lanes. `before` is how many threads there were before it.
-    fn put(&mut self, alloc: Global, before: Option<u32>, line: &[u8]) -> Result<(), AllocError>
-        ensures lanes { OnOk result ((read_of self.new).lanes ≡ in_front before
-            (threads_of (seen_of self.old.watch).now) line.now (read_of self.old).lanes) }
-        ensures watch { self.new.watch ≡ self.old.watch }
-        ensures closed { self.new.closed ≡ self.old.closed }
-    {
-        put_whole(&mut self.front, line)?;
-        match before {
-            Some(_) => Ok(()),
-            None => match threads_in(&self.watch) {
-                Some(threads) => self.open(alloc, threads),
-                None => Ok(()),
-            },
-        }
-    }
-
-    /// Carries out the line with this number, and puts it in front of the lanes.
-    fn see(&mut self, alloc: Global, number: u64, line: &[u8]) -> Result<(), LineFault>
+    /// Carries out the line with this number.
+    fn carry_out(&mut self, alloc: Global, number: u64, line: &[u8]) -> Result<(), LineFault>
         requires counted { AreCounted number (seen_of self.old.watch).now }
         requires places { length (seen_of self.old.watch).since ≡ MAX_THREADS }
         ensures sees { OnOk result (Sees number line.now (seen_of self.old.watch) (seen_of self.new.watch)) }
-        ensures lanes { OnOk result ((read_of self.new).lanes ≡ in_front (threads_of (seen_of self.old.watch).now)
-            (threads_of (seen_of self.new.watch).now) line.now (read_of self.old).lanes) }
+        ensures front { self.new.front ≡ self.old.front }
+        ensures items { self.new.items ≡ self.old.items }
         ensures closed { self.new.closed ≡ self.old.closed }
         ensures counted { OnOk result (AreCounted (number + 1) (seen_of self.new.watch).now) }
         ensures places { length (seen_of self.new.watch).since ≡ MAX_THREADS }
         ensures fault { IfErr result (LineHasFault (seen_of self.old.watch).now line.now) }
     {
-        let before = threads_in(&self.watch);
         match self.watch.see_line(alloc, number, line) {
-            Ok(()) => {}
-            Err(RunFault::Script { fault, .. }) => return Err(LineFault::Script(fault)),
-            Err(_) => return Err(LineFault::Memory),
+            Ok(()) => Ok(()),
+            Err(RunFault::Script { fault, .. }) => Err(LineFault::Script(fault)),
+            Err(_) => Err(LineFault::Memory),
         }
-        match self.put(alloc, before, line) {
+    }
+
+    /// Puts the line that was carried out, where so many names were bound before it.
+    fn put(
+        &mut self,
+        alloc: Global,
+        number: u64,
+        line: &[u8],
+        creation: Option<Creation>,
+        bound: usize,
+    ) -> Result<(), AllocError>
+        ensures front { OnOk result (self.new.front.items ≡ self.old.front.items ++ whole_line line.now) }
+        ensures items { OnOk result ((read_of self.new).items ≡ with_made (read_of self.old).items
+            (made_on number line.now creation (handle_in (names_of (seen_of self.old.watch).now) bound))) }
+        ensures watch { self.new.watch ≡ self.old.watch }
+        ensures closed { self.new.closed ≡ self.old.closed }
+    {
+        put_whole(&mut self.front, line)?;
+        let handle = handle_at(&self.watch, bound);
+        self.note_made(alloc, number, line, creation, handle)
+    }
+
+    /// Carries out the line with this number, which may be a creation, and puts it in front of the lanes.
+    fn see(
+        &mut self,
+        alloc: Global,
+        number: u64,
+        line: &[u8],
+        creation: Option<Creation>,
+    ) -> Result<(), LineFault>
+        requires counted { AreCounted number (seen_of self.old.watch).now }
+        requires places { length (seen_of self.old.watch).since ≡ MAX_THREADS }
+        ensures sees { OnOk result (Sees number line.now (seen_of self.old.watch) (seen_of self.new.watch)) }
+        ensures front { OnOk result (self.new.front.items ≡ self.old.front.items ++ whole_line line.now) }
+        ensures items { OnOk result ((read_of self.new).items ≡ with_made (read_of self.old).items
+            (made_on number line.now creation (given (seen_of self.old.watch).now (seen_of self.new.watch).now))) }
+        ensures closed { self.new.closed ≡ self.old.closed }
+        ensures counted { OnOk result (AreCounted (number + 1) (seen_of self.new.watch).now) }
+        ensures places { length (seen_of self.new.watch).since ≡ MAX_THREADS }
+        ensures fault { IfErr result (LineHasFault (seen_of self.old.watch).now line.now) }
+    {
+        let bound = names_bound(&self.watch);
+        self.carry_out(alloc, number, line)?;
+        match self.put(alloc, number, line, creation, bound) {
             Ok(()) => Ok(()),
             Err(_) => Err(LineFault::Memory),
         }
     }
 
-    /// Puts the line with this number last in its lane.
+    /// Has the line with this number go when its lane does.
     fn add(
         &mut self,
         alloc: Global,
@@ -276,16 +355,20 @@ impl Reading {
         ask: Ask,
         bytes: &[u8],
     ) -> Result<(), AllocError>
-        ensures lanes { OnOk result ((read_of self.new).lanes
-            ≡ with_line (read_of self.old).lanes lane (asked ask) bytes.now) }
+        ensures items { OnOk result (IsLast (read_of self.old).items number bytes.now lane (asked ask)
+            (read_of self.new).items) }
         ensures closed { OnOk result (self.new.closed.items ≡ with_closed (seen_of self.old.watch).now
             self.old.closed.items (closed_by (asked ask))) }
         ensures watch { self.new.watch ≡ self.old.watch }
+        ensures front { self.new.front ≡ self.old.front }
     {
         let line = line_of(alloc, number, bytes)?;
         note_closed(&mut self.closed, &self.watch, closed_by(&ask))?;
-        push_line(&mut self.lines, lane, line)?;
-        self.plan.add(lane, ask)?;
+        self.items.push(Item {
+            lane,
+            line,
+            does: Does::Asks(ask),
+        })?;
         Ok(())
     }
 
@@ -304,7 +387,7 @@ impl Reading {
                 Ok(()) => Ok(()),
                 Err(_) => Err(LaneFault::Line(LineFault::Memory)),
             },
-            Ok(Found::Start) => match self.see(alloc, number, line) {
+            Ok(Found::Start(creation)) => match self.see(alloc, number, line, creation) {
                 Ok(()) => Ok(()),
                 Err(fault) => Err(LaneFault::Line(fault)),
             },
@@ -337,30 +420,61 @@ impl Reading {
     }
 }
 
-/// The script of these `count` lines, once all were read.
-fn finish(reading: Reading, count: u64) -> Result<Script, OrdersFault>
-    requires { count + 1 < 2 ^ 64 }
-    ensures session { IfOk result (λ script. (read_of reading).seen.now ≡ Some (progress script.session)) }
-    ensures lanes { IfOk result (λ script. lanes_of script ≡ (read_of reading).lanes) }
-    ensures fault { IfErr result (λ fault. ((read_of reading).seen.now ≡ None)
-        × (fault ≡ orders.Run (run.Script (count + 1) ThreadsExpected))) }
+/// A copy of the session's dispatcher.
+fn copy_of(session: &Session) -> Result<Core, AllocError>
+    ensures { IfOk result (λ core. core ≡ session.now.core) }
 {
-    let Reading {
-        watch,
+    match session.core().copy() {
+        Ok(core) => Ok(core),
+        Err(_) => Err(AllocError),
+    }
+}
+
+/// The script of these lines, laid out, with a gate for each late creation.
+fn lay_out(
+    alloc: Global,
+    session: Session,
+    objects: Vec<u32>,
+    front: Vec<u8>,
+    items: &[Item],
+) -> Result<Script, AllocError>
+    ensures { IfOk result (λ script. IsLaidOut (state session.core) (map item_of items.now) front.items
+        (lanes_of script) (state script.session.core)) }
+{
+    let mut session = session;
+    let mut core = copy_of(&session)?;
+    let gates = make_gates(&mut core, alloc, count_late(items))?;
+    let Planned { laid, above } = plan_all(alloc, session.core().threads(), &gates, items)?;
+    let Laid { plan, lines, .. } = laid;
+    let _before = session.replace_core(core);
+    Ok(Script {
+        session,
+        objects,
         plan,
         lines,
         front,
+        above,
+    })
+}
+
+/// The script of these `count` lines, once all were read.
+fn finish(alloc: Global, reading: Reading, count: u64) -> Result<Script, OrdersFault>
+    requires { count + 1 < 2 ^ 64 }
+    ensures script { IfOk result (IsScriptOf (read_of reading)) }
+    ensures fault { IfErr result (IsLateFault (count + 1) (read_of reading)) }
+{
+    let Reading {
+        watch,
+        front,
+        items,
         ..
     } = reading;
     let (session, objects) = watch.into_parts();
     match session {
-        Some(session) => Ok(Script {
-            session,
-            objects,
-            plan,
-            lines,
-            front,
-        }),
+        Some(session) => match lay_out(alloc, session, objects, front, &items) {
+            Ok(script) => Ok(script),
+            Err(_) => Err(OrdersFault::Memory),
+        },
         None => Err(OrdersFault::Run(RunFault::Script {
             line: count + 1,
             fault: ScriptFault::ThreadsExpected,
@@ -369,7 +483,7 @@ fn finish(reading: Reading, count: u64) -> Result<Script, OrdersFault>
 }
 
 /// Reads a script: carries out what is made before all calls, and puts each call and tick into its lane.
-#[tactic(auto, using(crate::proofs::Lines::fault_if_err, crate::proofs::Lines::first_fault))]
+#[tactic(auto, using(crate::proofs::Lines::fault_if_err, crate::proofs::Lines::first_fault, crate::proofs::Lines::plan_if_ok))]
 pub(crate) fn read_script(alloc: Global, input: &[u8]) -> Result<Script, OrdersFault>
     ensures plan { IfOk result (λ script. IsPlanOf input.now (lanes_of script) (state script.session.core)) }
     ensures fault { IfErr result (IsFirstFault input.now) }
@@ -377,7 +491,7 @@ pub(crate) fn read_script(alloc: Global, input: &[u8]) -> Result<Script, OrdersF
     match Reading::new(alloc) {
         Ok(mut reading) => {
             match reading.read_all(alloc, input) {
-                Ok(count) => finish(reading, count),
+                Ok(count) => finish(alloc, reading, count),
                 Err(fault) => Err(fault),
             }
         }

@@ -8,11 +8,11 @@ ghost use Rattle.nt_orders.specs.Ending.{verdict_code, order_of, IsCutOff, IsSea
 ghost use Rattle.nt_orders.specs.Reading.{lanes_of};
 
 use crate::fault::OrdersFault;
-use crate::hang::put_hang;
 use crate::lanes::Script;
+use crate::laying::Made;
 use crate::progress::Progress;
 use crate::reading::read_script;
-use crate::rows::put_rows;
+use crate::rows::{put_hang, put_rows};
 use nt_core::Core;
 use nt_devices::Sink;
 use nt_explore::{Explored, Loss, OrderVerdict, explore};
@@ -75,6 +75,20 @@ fn put_lost(out: &mut Vec<u8>, told: &[u8], loss: &Loss) -> Result<(), AllocErro
     out.extend_from_slice(b" ends in no order from here on\n")
 }
 
+/// Puts a comment that names a gate: it is of its line, and that of a thread.
+fn put_gate_title(out: &mut Vec<u8>, core: &Core, made: &Made) -> Result<(), AllocError> {
+    let Some(opened) = core.opened(made.gate) else {
+        return Ok(());
+    };
+    out.extend_from_slice(b"\n; object ")?;
+    put_number(out, u64::from(opened.object.get()))?;
+    out.extend_from_slice(b" is (line ")?;
+    put_number(out, made.number)?;
+    out.extend_from_slice(b" of t")?;
+    put_number(out, u64::from(made.who))?;
+    out.extend_from_slice(b")\n")
+}
+
 /// Where an order ends: the dispatcher, and by thread the line on which it waits.
 #[derive(Drop)]
 struct End {
@@ -97,6 +111,15 @@ fn put_hang_line(
 }
 
 impl Script {
+    /// What tells names: the script's comments, and that a gate is of its line.
+    fn titles(&self, alloc: Global, told: &[u8]) -> Result<Vec<u8>, AllocError> {
+        let mut out = Vec::from_slice(alloc, told)?;
+        for made in &self.above {
+            put_gate_title(&mut out, self.session.core(), made)?;
+        }
+        Ok(out)
+    }
+
     /// Puts the order, and who hangs at its end.
     fn put_order(
         &self,
@@ -218,7 +241,8 @@ impl Script {
             ≡ order_of (lanes_of self.old) explored.now.verdict) }
     {
         let order = self.order_of(alloc, &explored.verdict)?;
-        let report = self.report(alloc, file, told, explored)?;
+        let titles = self.titles(alloc, told)?;
+        let report = self.report(alloc, file, &titles, explored)?;
         Ok(Findings { report, order })
     }
 }

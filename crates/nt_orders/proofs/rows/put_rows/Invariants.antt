@@ -1,6 +1,6 @@
 use Rattle.std.proofs.Common.{◌≡◌, ◌++◌, take}
 use Rattle.std.specs.List.{flat_map}
-use Rattle.nt_orders.specs.Rows.{number_width, row_text, text_width}
+use Rattle.nt_orders.specs.Texts.{number_width, row_text, text_width}
 use Rattle.nt_orders.proofs.rows.put_rows.Given as goal
 
 abbrev pub invariant-loop-row : goal.invariant-loop-row

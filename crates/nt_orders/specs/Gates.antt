@@ -1,0 +1,193 @@
+-- Gates: a late creation, one after a call, is a step of its lane too. It is made before all calls, so that each handle keeps its number, and an
+-- event that no line names, its gate, is set when its line goes. What names its handle in another lane waits for the gate first.
+use Rattle.std.specs.Prelude.{◌≡◌, ℕ, ◌+◌, ◌==◌, ◌&&◌, ◌++◌, nat_lt, Bool, true, false, not, List, [], ◌∷◌, length, replicate, slice_get, slice_set, slice_index_or, Option, None, Some, is_some, Result, if◌then◌else◌, codes}
+use Rattle.std.specs.List.{find, fold, list_any}
+use Rattle.std.specs.Fmt.{decimal}
+use Rattle.nt_status.specs.declared.limits.TheConstants.{INFINITE}
+use Rattle.nt_status.specs.declared.refusal.Refusal.{Refusal}
+use Rattle.nt_calls.specs.State.{State}
+use Rattle.nt_calls.specs.Steps.{Called}
+use Rattle.nt_calls.specs.declared.call.Act.{Act}
+use Rattle.nt_calls.specs.declared.call.Call.{Call}
+use Rattle.nt_calls.specs.declared.call.WaitCall.{WaitCall}
+use Rattle.nt_calls.specs.declared.call.Reply.{Reply}
+use Rattle.nt_calls.specs.declared.call.Grant.{Grant}
+use Rattle.nt_grammar.specs.Naming.{handle_of}
+use Rattle.nt_look.specs.Orders.{Ask, Calls, Plan, asks}
+use Rattle.nt_lanes.specs.Lanes.{names_handle}
+use Rattle.nt_orders.specs.declared.laying.Made.{Made}
+use Rattle.nt_orders.specs.declared.laying.Pass.{Pass}
+
+-- ---- lines that go when their lanes do
+
+-- what a line does when its lane goes: it asks something; or it is a late creation, which gave this handle, another one of that handle
+pub data Does : Type 0 where
+  Asks : (ask : Ask) → Does
+  Makes : (handle : ℕ) → (source : Option ℕ) → Does
+
+-- such a line: its number in the script, itself as it stands, and whose lane it is of
+pub record Item : Type 0 where
+  pub number : ℕ
+  pub bytes : List ℕ
+  pub lane : ℕ
+  pub does : Does
+
+-- it makes something
+abbrev pub makes : Does → Bool
+makes (Asks ask) = false
+makes (Makes handle source) = true
+
+-- the line is a late creation
+abbrev pub is_late : Item → Bool
+is_late item = makes item.does
+
+-- ---- the lanes
+
+-- by lane, its lines, each as it stands
+abbrev pub Texts : Type 0
+Texts = List (List (List ℕ))
+
+-- what each lane is to do, the lines that tell it, and the text of the lines that stand in front of them
+pub record Lanes : Type 0 where
+  pub plan : Plan
+  pub texts : Texts
+  pub front : List ℕ
+
+-- the plan, with this as the last in the lane
+abbrev pub with_ask : Plan → ℕ → Ask → Plan
+with_ask plan lane ask = slice_set plan lane (asks plan lane ++ ask ∷ [])
+
+-- the texts, with this line as the last in the lane
+abbrev pub with_text : Texts → ℕ → List ℕ → Texts
+with_text texts lane bytes = slice_set texts lane (slice_index_or texts lane [] ++ bytes ∷ [])
+
+-- what was laid out so far: what each lane is to do, the lines that tell it, and which lane has passed which gate
+pub record Laid : Type 0 where
+  pub plan : Plan
+  pub texts : Texts
+  pub passed : List Pass
+
+-- this is the last that the lane is to do, as this line tells
+abbrev pub with_line : Laid → ℕ → Ask → List ℕ → Laid
+with_line laid lane ask bytes = record { plan = with_ask laid.plan lane ask; texts = with_text laid.texts lane bytes; passed = laid.passed }
+
+-- the lane has passed the gate
+abbrev pub with_passed : Laid → ℕ → ℕ → Laid
+with_passed laid lane gate = record { plan = laid.plan; texts = laid.texts; passed = laid.passed ++ record { lane = lane; gate = gate } ∷ [] }
+
+-- so many threads that do nothing yet
+abbrev pub none_laid : ℕ → Laid
+none_laid threads = record { plan = replicate (threads + 1) []; texts = replicate (threads + 1) []; passed = [] }
+
+-- ---- waits for gates
+
+-- a wait for the gate, without end
+abbrev pub wait_for : ℕ → Ask
+wait_for gate = Calls (Call.Wait (WaitCall.Objects false (record { ms = INFINITE; alertable = false }) (gate ∷ [])))
+
+-- in a script a comment stands for it
+abbrev pub wait_line : ℕ → ℕ → List ℕ
+wait_line lane number = codes "; t" ++ (decimal lane ++ (codes " waits for line " ++ decimal number))
+
+-- so it does for a late creation
+abbrev pub made_line : ℕ → List ℕ
+made_line number = codes "; line " ++ (decimal number ++ codes " goes here")
+
+-- the lane has passed this gate
+abbrev pub has_passed : List Pass → ℕ → ℕ → Bool
+has_passed passed lane gate = list_any (λ pass. (pass.lane == lane) && (pass.gate == gate)) passed
+
+-- the lane waits for the gate of this late creation, unless it has passed it
+abbrev pub after : ℕ → Laid → Made → Laid
+after lane laid made =
+    if has_passed laid.passed lane made.gate then laid
+    else with_passed (with_line laid lane (wait_for made.gate) (wait_line lane made.number)) lane made.gate
+
+-- the handle is this one
+abbrev pub is_handle : ℕ → Option ℕ → Bool
+is_handle handle None = false
+is_handle handle (Some it) = it == handle
+
+-- the line names this handle
+abbrev pub names : Does → ℕ → Bool
+names (Asks ask) handle = names_handle handle ask
+names (Makes made source) handle = is_handle handle source
+
+-- where the line names what a late creation gave, its lane waits for that
+abbrev pub after_if_named : ℕ → Does → Laid → Made → Laid
+after_if_named lane does laid made = if names does made.handle then after lane laid made else laid
+
+-- it is the lane of one of so many threads, and has nothing to do yet
+abbrev pub is_new : ℕ → ℕ → Laid → Bool
+is_new threads lane laid = nat_lt lane threads && not (is_some (slice_get (asks laid.plan lane) 0))
+
+-- the first of these late creations that makes another handle of the thread begins it
+abbrev pub beginning_of : ℕ → List Made → Option Made
+beginning_of thread above = find (λ made. is_handle thread made.source) above
+
+-- the lane waits for such a creation, if there is one
+abbrev pub after_any : ℕ → Laid → Option Made → Laid
+after_any lane laid None = laid
+after_any lane laid (Some made) = after lane laid made
+
+-- a thread's first line waits for what begins the thread
+abbrev pub after_beginning : ℕ → List Made → ℕ → Laid → Laid
+after_beginning threads above lane laid = if is_new threads lane laid then after_any lane laid (beginning_of lane above) else laid
+
+-- what a line waits for before it goes, of these late creations above it
+abbrev pub after_all : ℕ → List Made → Laid → Item → Laid
+after_all threads above laid item =
+    fold (after_if_named item.lane item.does) (after_beginning threads above item.lane laid) above
+
+-- ---- all lines
+
+-- what was planned so far, and the late creations above
+pub record Planned : Type 0 where
+  pub laid : Laid
+  pub above : List Made
+
+-- the late creation's line goes: it sets its gate
+abbrev pub opened_by : Laid → Item → ℕ → Laid
+opened_by laid item gate = with_passed (with_line laid item.lane (Calls (Call.Act (Act.SetEvent gate))) (made_line item.number)) item.lane gate
+
+-- the gate of the late creation after these
+abbrev pub next_gate : List ℕ → List Made → ℕ
+next_gate gates above = slice_index_or gates (length above) 0
+
+-- the line goes when all went for which it waits
+abbrev pub goes_last : List ℕ → Planned → Item → Does → Planned
+goes_last gates old item (Asks ask) = record { laid = with_line old.laid item.lane ask item.bytes; above = old.above }
+goes_last gates old item (Makes handle source) =
+    record {
+      laid = opened_by old.laid item (next_gate gates old.above);
+      above = old.above ++ record { number = item.number; who = item.lane; handle = handle; source = source; gate = next_gate gates old.above } ∷ [];
+    }
+
+-- a line more is planned
+abbrev pub planned_on : ℕ → List ℕ → Planned → Item → Planned
+planned_on threads gates old item =
+    goes_last gates (record { laid = after_all threads old.above old.laid item; above = old.above }) item item.does
+
+-- these lines are planned, with these gates
+abbrev pub planned_all : ℕ → List ℕ → List Item → Planned
+planned_all threads gates items = fold (planned_on threads gates) (record { laid = none_laid threads; above = [] }) items
+
+-- the lanes that are laid out so, after this text
+abbrev pub lanes_with : Laid → List ℕ → Lanes
+lanes_with laid front = record { plan = laid.plan; texts = laid.texts; front = front }
+
+-- the lanes of these lines
+abbrev pub planned : ℕ → List ℕ → List ℕ → List Item → Lanes
+planned threads gates front items = lanes_with (planned_all threads gates items).laid front
+
+-- ---- the gates
+
+-- a manual-reset event is made, not set, and this is its handle
+abbrev pub MakesGate : State → ℕ → State → Type 0
+MakesGate old gate new =
+    (result : Result Reply Refusal) × (grants : List Grant) × (handle_of result ≡ Some gate) × Called old 0 (Call.Act (Act.CreateEvent 1)) result grants new
+
+-- such events are made, one after another
+abbrev pub MakesGates : State → List ℕ → State → Type 0
+MakesGates old [] new = new ≡ old
+MakesGates old (gate ∷ gates) new = (mid : State) × MakesGate old gate mid × MakesGates mid gates new

@@ -1,0 +1,120 @@
+//! The lines of a script that go when their lanes do.
+ghost use Rattle.std.specs.Prelude.{◌≡◌, ◌==◌, IfOk};
+ghost use Rattle.std.specs.List.{list_any};
+ghost use Rattle.nt_calls.specs.declared.call.Call.{Call};
+ghost use Rattle.nt_apart.specs.Fewer.{handles_of};
+ghost use Rattle.nt_lanes.specs.Lanes.{asked, names_handle};
+ghost use Rattle.nt_orders.specs.Gates.{is_handle, names};
+ghost use Rattle.nt_orders.specs.Reading.{does_of};
+
+use crate::lanes::Line;
+use nt_calls::{Act, Call, WaitCall};
+use nt_explore::Ask;
+use nt_status::Handle;
+use std::alloc::AllocError;
+
+/// Whose creation a line is, and what it makes another handle of.
+#[derive(Clone, Copy)]
+pub(crate) struct Creation {
+    pub who: u32,
+    pub source: Option<Handle>,
+}
+
+/// What a line does when its lane goes.
+#[derive(Drop)]
+pub(crate) enum Does {
+    Asks(Ask),
+    /// It is a late creation, which gave this handle, another one of that handle.
+    Makes {
+        handle: Handle,
+        source: Option<Handle>,
+    },
+}
+
+/// A line that goes when its lane does.
+#[derive(Drop)]
+pub(crate) struct Item {
+    pub lane: u32,
+    pub line: Line,
+    pub does: Does,
+}
+
+/// The same, in memory of its own.
+pub(crate) fn copy_of(ask: &Ask) -> Result<Ask, AllocError>
+    ensures { IfOk result (λ copied. asked copied ≡ asked ask.now) }
+{
+    match ask {
+        Ask::Call(call) => Ok(Ask::Call(call.clone()?)),
+        Ask::Tick(moment) => Ok(Ask::Tick(*moment)),
+    }
+}
+
+/// Whether the act names this handle.
+fn act_names(act: &Act, handle: Handle) -> bool
+    ensures { result ≡ list_any (λ named. named == handle) (handles_of (Call.Act act.now)) }
+{
+    match act {
+        Act::SetEvent(named)
+        | Act::ResetEvent(named)
+        | Act::PulseEvent(named)
+        | Act::ReleaseMutex(named)
+        | Act::CancelTimer(named)
+        | Act::Close(named) => *named == handle,
+        Act::ReleaseSemaphore {
+            semaphore: named,
+            ..
+        } => *named == handle,
+        Act::SetTimer { timer: named, .. } => *named == handle,
+        Act::QueueApc { thread: named, .. } => *named == handle,
+        Act::Duplicate { handle: named, .. } => *named == handle,
+        _ => false,
+    }
+}
+
+/// Whether the wait names this handle.
+fn wait_names(wait: &WaitCall, handle: Handle) -> bool
+    ensures { result ≡ list_any (λ named. named == handle) (handles_of (Call.Wait wait.now)) }
+{
+    match wait {
+        WaitCall::Objects { handles, .. } => handles
+            .as_slice()
+            .iter()
+            .any(|named| *named == handle),
+        WaitCall::Sleep(_) => false,
+        WaitCall::Swap { signal, object, .. } => *signal == handle || *object == handle,
+    }
+}
+
+/// Whether what is asked names this handle.
+fn ask_names(ask: &Ask, handle: Handle) -> bool
+    ensures { result ≡ names_handle handle (asked ask.now) }
+{
+    match ask {
+        Ask::Call(Call::Act(act)) => act_names(act, handle),
+        Ask::Call(Call::Wait(wait)) => wait_names(wait, handle),
+        Ask::Call(Call::Exit) => false,
+        Ask::Tick(_) => false,
+    }
+}
+
+/// Whether the handle is this one.
+pub(crate) fn is_handle(handle: Handle, sought: Option<Handle>) -> bool
+    ensures { result ≡ is_handle handle sought }
+{
+    match sought {
+        Some(it) => it == handle,
+        None => false,
+    }
+}
+
+impl Does {
+    /// Whether the line names this handle.
+    pub(crate) fn names(&self, handle: Handle) -> bool
+        ensures { result ≡ names (does_of self.now) handle }
+    {
+        match self {
+            Does::Asks(ask) => ask_names(ask, handle),
+            Does::Makes { source, .. } => is_handle(handle, *source),
+        }
+    }
+}
