@@ -74,20 +74,60 @@ class Names:
         return answer
 
 
+class Late:
+    """A creation after a call or a tick: its line and thread, the handle that it gave, that of which it is another one, and its gate."""
+
+    def __init__(self, number, who, handle, source):
+        self.number, self.who, self.handle, self.source, self.gate = number, who, handle, source, None
+
+
 class Script:
-    """The machine after the creations at the head, and the numbered lines of each lane: those of the threads, and last the ticks."""
+    """The machine after all creations, wherever they stand, and the lines of each lane: those of the threads, and last the ticks. Each has its number,
+    what is shown of it, and what is carried out. A late creation sets an event, its gate, and what has to come after it waits for that."""
 
     def __init__(self, text):
         (_, opening), *lines = lines_of(text)
         self.called = dict(re.findall(r"(?m)^; (\S+) is (.*)$", text))
         self.threads = int(opening.split()[1])
         self.start, self.names = Machine(self.threads), Names()
-        while lines and lines[0][1].split()[1] in CREATES:
-            self.names.carry_out(self.start, lines.pop(0)[1])
-        self.lanes = [[] for _ in range(self.threads + 1)]
+        self.lanes, self.passed = [[] for _ in range(self.threads + 1)], set()
+        read = self.read(lines)
+        for late in (it for _, _, it in read if it):
+            late.gate = int(self.start.call(0, "event", True, False)[0].split()[1])
+            self.called[f"object {self.start.handles[late.gate][0]}"] = f"(line {late.number} of t{late.who})"
+        for at, (number, line, late) in enumerate(read):
+            self.lay(number, line, late, [it for _, _, it in read[:at] if it])
+
+    def read(self, lines):
+        """Carries out the creations. Answers the other lines, and among them the creations that are late."""
+        found, closed = [], set()
         for number, line in lines:
-            first = line.split()[0]
-            self.lanes[self.threads if first == "tick" else int(first[1:])].append((number, line))
+            first, keyword, *words = line.split()
+            if first == "tick" or keyword not in CREATES:
+                found.append((number, line, None))
+                handle = self.names.handle(words[0]) if keyword == "close" else None
+                closed |= {handle} if handle is not None and handle < len(self.start.handles) and self.start.handles[handle] else set()
+                continue
+            source = self.names.handle(words[1]) if keyword == "dup" else None
+            if source in closed:
+                continue
+            answer = self.names.carry_out(self.start, line)[0]
+            if found and answer.startswith("handle"):
+                found.append((number, line, Late(number, int(first[1:]), int(answer.split()[1]), source)))
+        return found
+
+    def lay(self, number, line, late, above):
+        """Puts the line last in its lane, after waits for the late creations above that it needs."""
+        first, *rest = line.split()
+        lane = self.threads if first == "tick" else int(first[1:])
+        begins = [it for it in above if first != "tick" and not self.lanes[lane] and it.source == lane]
+        named = [late.source] if late else [] if first == "tick" else handles_in(*self.names.call(rest[0], rest[1:]))
+        for it in begins[:1] + [it for it in above if it.handle in named]:
+            if (lane, it.gate) not in self.passed:
+                self.lanes[lane].append((number, f"t{lane} waits for line {it.number}", f"t{lane} any inf plain {it.gate}"))
+                self.passed.add((lane, it.gate))
+        self.lanes[lane].append((number, line, f"t{lane} set {late.gate}" if late else line))
+        self.passed |= {(lane, late.gate)} if late else set()
 
     def titled(self, word):
         """The word, and what the last comment that tells it a name calls it."""
@@ -163,7 +203,7 @@ def handles_in(keyword, *words):
 
 def twins_of(script):
     """For each thread the lower ones that have the same calls to make, where no call names the handle of one of the two."""
-    calls = [[script.names.call(*line.split()[1:2], line.split()[2:]) for _, line in lane] for lane in script.lanes[:-1]]
+    calls = [[script.names.call(*line.split()[1:2], line.split()[2:]) for *_, line in lane] for lane in script.lanes[:-1]]
     named = {it for lane in calls for call in lane for it in handles_in(*call)}
     return [[low for low in range(who) if calls[low] == calls[who] and not {low, who} & named] for who in range(script.threads)]
 
@@ -221,7 +261,7 @@ class Found:
         if here.at[lane] == len(self.script.lanes[lane]) or lane in here.machine.waits or self.has_lower(here, lane):
             return
         machine = here.machine.copy()
-        self.script.names.carry_out(machine, self.script.lanes[lane][here.at[lane]][1])
+        self.script.names.carry_out(machine, self.script.lanes[lane][here.at[lane]][2])
         next_one = Point(machine, (*here.at[:lane], here.at[lane] + 1, *here.at[lane + 1:]), here, lane)
         found = met.setdefault((next_one.at, machine.key()), next_one)
         if found is next_one:
@@ -267,8 +307,8 @@ class Found:
     def rows(self, point, indent):
         machine, at, rows = self.script.start.copy(), [0] * len(self.script.lanes), []
         for lane in point.order():
-            number, line = self.script.lanes[lane][at[lane]]
-            answer, grants = self.script.names.carry_out(machine, line)
+            number, line, done = self.script.lanes[lane][at[lane]]
+            answer, grants = self.script.names.carry_out(machine, done)
             at[lane] += 1
             ends = "".join(f"; t{who}'s wait ends: {status_name(status)}" for who, status in grants)
             rows.append((str(number), line, answer_name(answer) + ends))
@@ -299,10 +339,11 @@ class Found:
         return told
 
     def name_of(self, number):
-        """A thread by its number, any other object by the first name that it was given."""
+        """A thread by its number, any other object by the first name that it was given, or by its number if it was given none."""
         if number < self.script.threads:
             return f"t{number}"
-        return next(name for name, handle in self.script.names.handles.items() if self.script.start.handles[handle][0] == number)
+        named = (name for name, handle in self.script.names.handles.items() if self.script.start.handles[handle][0] == number)
+        return next(named, f"object {number}")
 
 
 def counted(count, what):
