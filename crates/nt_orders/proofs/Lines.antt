@@ -13,11 +13,11 @@ use Rattle.nt_machine.specs.Dispatcher.{state}
 use Rattle.nt_lines.specs.Lines.{lines_of}
 use Rattle.nt_script.specs.Progress.{AreCounted, Progress}
 use Rattle.nt_orders.specs.declared.lanes.Script.{Script}
-use Rattle.nt_orders.specs.declared.reading.LaneFault.{LaneFault}
+use Rattle.nt_orders.specs.declared.items.LaneFault.{LaneFault}
 use Rattle.nt_orders.specs.declared.fault.OrdersFault.{OrdersFault}
 use Rattle.nt_orders.specs.Ending.{IsFirstFault}
 use Rattle.nt_grammar.specs.declared.fault.LineFault.TheVariants as line
-use Rattle.nt_orders.specs.declared.reading.LaneFault.TheVariants as lane
+use Rattle.nt_orders.specs.declared.items.LaneFault.TheVariants as lane
 use Rattle.nt_orders.specs.declared.fault.OrdersFault.TheVariants as orders
 
 abbrev pub gone_with : List ℕ → List ℕ → Gone

@@ -19,10 +19,10 @@ use Rattle.nt_orders.specs.declared.fault.OrdersFault.{OrdersFault}
 use Rattle.nt_orders.specs.declared.fault.OrdersFault.TheVariants as orders
 use Rattle.nt_orders.specs.declared.lanes.Line.{Line}
 use Rattle.nt_orders.specs.declared.lanes.Script.{Script}
-use Rattle.nt_orders.specs.declared.reading.Found.{Found}
-use Rattle.nt_orders.specs.declared.reading.Found.TheVariants as found
-use Rattle.nt_orders.specs.declared.reading.LaneFault.{LaneFault}
-use Rattle.nt_orders.specs.declared.reading.LaneFault.TheVariants as lane
+use Rattle.nt_orders.specs.declared.items.Found.{Found}
+use Rattle.nt_orders.specs.declared.items.Found.TheVariants as found
+use Rattle.nt_orders.specs.declared.items.LaneFault.{LaneFault}
+use Rattle.nt_orders.specs.declared.items.LaneFault.TheVariants as lane
 use Rattle.nt_orders.specs.declared.reading.Reading.{Reading}
 use Rattle.nt_orders.specs.declared.items.Does as kept_does
 use Rattle.nt_orders.specs.declared.items.Does.TheVariants as does

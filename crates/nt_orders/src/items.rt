@@ -1,17 +1,22 @@
-//! The lines of a script that go when their lanes do.
-ghost use Rattle.std.specs.Prelude.{◌≡◌, ◌==◌, IfOk};
+//! What the lines of a script are, and those that go when their lanes do.
+ghost use Rattle.std.specs.Prelude.{◌≡◌, ◌==◌, IfOk, Some};
 ghost use Rattle.std.specs.List.{list_any};
 ghost use Rattle.nt_calls.specs.declared.call.Call.{Call};
 ghost use Rattle.nt_apart.specs.Fewer.{handles_of};
 ghost use Rattle.nt_lanes.specs.Lanes.{asked, names_handle};
 ghost use Rattle.nt_orders.specs.Gates.{is_handle, names};
-ghost use Rattle.nt_orders.specs.Reading.{does_of};
+ghost use Rattle.nt_script.specs.Progress.{progress};
+ghost use Rattle.nt_orders.specs.Plans.{is_among, source_of};
+ghost use Rattle.nt_orders.specs.Reading.{Finds, IsFoundOf, does_of};
 
 use crate::lanes::Line;
 use nt_calls::{Act, Call, WaitCall};
 use nt_explore::Ask;
+use nt_grammar::{LineFault, ScriptFault, Statement};
+use nt_lines::MAX_LINE;
+use nt_script::Session;
 use nt_status::Handle;
-use std::alloc::AllocError;
+use std::alloc::{AllocError, Global};
 
 /// Whose creation a line is, and what it makes another handle of.
 #[derive(Clone, Copy)]
@@ -116,5 +121,107 @@ impl Does {
             Does::Asks(ask) => ask_names(ask, handle),
             Does::Makes { source, .. } => is_handle(handle, *source),
         }
+    }
+}
+
+/// Why a line can't be read.
+#[derive(Clone, Copy)]
+pub(crate) enum LaneFault {
+    Line(LineFault),
+    NoThread,
+}
+
+/// What a line is.
+#[derive(Drop)]
+pub(crate) enum Found {
+    /// It is carried out before all calls, and may be a creation.
+    Start(Option<Creation>),
+    /// It is left out.
+    Nothing,
+    /// It asks this of the lane with this number.
+    Asks(u32, Ask),
+}
+
+/// The handle that the act makes another one of.
+fn source_of(act: Act) -> Option<Handle>
+    ensures { result ≡ source_of act }
+{
+    match act {
+        Act::Duplicate { handle, .. } => Some(handle),
+        _ => None,
+    }
+}
+
+/// Whether the handle is one of these.
+fn is_one_of(handles: &[Handle], handle: Handle) -> bool
+    ensures { result ≡ list_any (λ it. it == handle) handles.now }
+{
+    handles.iter().any(|it| *it == handle)
+}
+
+/// Whether the handle, if there is one, is one of these.
+fn is_among(handles: &[Handle], sought: Option<Handle>) -> bool
+    ensures { result ≡ is_among handles.now sought }
+{
+    match sought {
+        Some(handle) => is_one_of(handles, handle),
+        None => false,
+    }
+}
+
+/// Whether the creation makes another one of these handles.
+fn is_left_out(closed: &[Handle], creation: &Creation) -> bool
+    ensures { result ≡ is_among closed.now creation.now.source }
+{
+    is_among(closed, creation.source)
+}
+
+/// What a statement is, after lines that close these handles.
+fn found_of(statement: Statement, threads: u32, closed: &[Handle]) -> Result<Found, LaneFault>
+    ensures { IsFoundOf threads closed.now statement result }
+{
+    match statement {
+        Statement::Blank => Ok(Found::Start(None)),
+        Statement::Create {
+            who,
+            name: _name,
+            act,
+        } => {
+            let creation = Creation {
+                who,
+                source: source_of(act),
+            };
+            if is_left_out(closed, &creation) {
+                Ok(Found::Nothing)
+            } else {
+                Ok(Found::Start(Some(creation)))
+            }
+        }
+        Statement::Perform { who, call } => {
+            if who >= threads {
+                Err(LaneFault::NoThread)
+            } else {
+                Ok(Found::Asks(who, Ask::Call(call)))
+            }
+        }
+        Statement::Tick { moment } => Ok(Found::Asks(threads, Ask::Tick(moment))),
+    }
+}
+
+/// What a line after the `threads` line is, after lines that close these handles.
+pub(crate) fn find_in(
+    session: &Session,
+    alloc: Global,
+    closed: &[Handle],
+    line: &[u8],
+) -> Result<Found, LaneFault>
+    ensures { Finds (Some (progress session.now)) closed.now line.now result }
+{
+    if line.len() > MAX_LINE {
+        return Err(LaneFault::Line(LineFault::Script(ScriptFault::LineTooLong)));
+    }
+    match session.read(alloc, line) {
+        Ok(statement) => found_of(statement, session.core().threads(), closed),
+        Err(fault) => Err(LaneFault::Line(fault)),
     }
 }

@@ -2,14 +2,16 @@
 ghost use Rattle.std.specs.Prelude.{◌≡◌, length, count_by, map, IfOk, OnOk};
 ghost use Rattle.nt_machine.specs.Dispatcher.{state};
 ghost use Rattle.nt_orders.specs.Gates.{Makes, MakesGate, MakesGates, goes_last, is_late, makes, planned_all, planned_on};
-ghost use Rattle.nt_orders.specs.Reading.{does_of, item_of, laid_of, planned_of};
+ghost use Rattle.nt_orders.specs.Plans.{IsLaidOut};
+ghost use Rattle.nt_orders.specs.Reading.{does_of, item_of, laid_of, lanes_of, planned_of};
 
 use crate::items::{Does, Item, copy_of};
-use crate::lanes::Line;
+use crate::lanes::{Line, Script};
 use crate::laying::{Laid, Made};
 use nt_calls::{Act, Call};
 use nt_core::Core;
 use nt_grammar::handle_of;
+use nt_script::Session;
 use nt_status::{EventFlags, Handle};
 use std::alloc::{AllocError, Global};
 
@@ -148,4 +150,41 @@ pub(crate) fn plan_all(
         planned.add(alloc, threads, gates, item)?;
     }
     Ok(planned)
+}
+
+/// A copy of the session's dispatcher.
+fn core_of(session: &Session) -> Result<Core, AllocError>
+    ensures { IfOk result (λ core. core ≡ session.now.core) }
+{
+    match session.core().copy() {
+        Ok(core) => Ok(core),
+        Err(_) => Err(AllocError),
+    }
+}
+
+/// The script of these lines, laid out, with a gate for each late creation.
+pub(crate) fn lay_out(
+    alloc: Global,
+    session: Session,
+    objects: Vec<u32>,
+    front: Vec<u8>,
+    items: &[Item],
+) -> Result<Script, AllocError>
+    ensures { IfOk result (λ script. IsLaidOut (state session.core) (map item_of items.now) front.items
+        (lanes_of script) (state script.session.core)) }
+{
+    let mut session = session;
+    let mut core = core_of(&session)?;
+    let gates = make_gates(&mut core, alloc, count_late(items))?;
+    let Planned { laid, above } = plan_all(alloc, session.core().threads(), &gates, items)?;
+    let Laid { plan, lines, .. } = laid;
+    let _before = session.replace_core(core);
+    Ok(Script {
+        session,
+        objects,
+        plan,
+        lines,
+        front,
+        above,
+    })
 }

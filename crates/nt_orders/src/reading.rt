@@ -1,6 +1,5 @@
 //! A script is read, line by line.
-ghost use Rattle.std.specs.List.{list_any};
-ghost use Rattle.std.specs.Prelude.{◌≡◌, ◌==◌, ◌+◌, ◌<◌, ◌≤◌, ◌^◌, ◌++◌, ◌∷◌, ℕ, List, [], None, Some, length, map, IfErr, IfOk, OnOk};
+ghost use Rattle.std.specs.Prelude.{◌≡◌, ◌+◌, ◌<◌, ◌≤◌, ◌^◌, ◌++◌, ◌∷◌, ℕ, [], Some, length, IfErr, IfOk, OnOk};
 ghost use Rattle.nt_status.specs.declared.limits.TheConstants.{MAX_THREADS};
 ghost use Rattle.nt_machine.specs.Dispatcher.{state};
 ghost use Rattle.nt_lines.specs.Lines.{lines_of};
@@ -9,23 +8,19 @@ ghost use Rattle.nt_hangs.specs.Steps.{LineHasFault};
 ghost use Rattle.nt_hangs.specs.Watching.{Sees, names_of, seen_of};
 ghost use Rattle.nt_grammar.specs.Scope.{handle_in};
 ghost use Rattle.nt_lanes.specs.Lanes.{asked};
-ghost use Rattle.nt_script.specs.Progress.{progress};
 ghost use Rattle.nt_orders.specs.Ending.{IsFirstFault};
-ghost use Rattle.nt_orders.specs.Plans.{IsLaidOut, IsPlanOf, Reads, ReadsAll, Stops, closed_by, given, is_among, is_open, made_on, source_of, unread, whole_line, with_closed, with_made};
-ghost use Rattle.nt_orders.specs.Reading.{Finds, IsFoundOf, IsLaneFault, IsLast, IsLateFault, IsScriptOf, at_line, item_of, lanes_of, read_of};
+ghost use Rattle.nt_orders.specs.Plans.{IsPlanOf, Reads, ReadsAll, Stops, closed_by, given, is_open, made_on, unread, whole_line, with_closed, with_made};
+ghost use Rattle.nt_orders.specs.Reading.{Finds, IsLaneFault, IsLast, IsLateFault, IsScriptOf, at_line, item_of, lanes_of, read_of};
 
 use crate::fault::{OrdersFault, fault_at};
-use crate::items::{Creation, Does, Item};
+use crate::items::{Creation, Does, Found, Item, LaneFault, find_in};
 use crate::lanes::{Script, line_of, put_whole};
-use crate::laying::Laid;
-use crate::planning::{Planned, count_late, make_gates, plan_all};
+use crate::planning::lay_out;
 use nt_calls::{Act, Call};
-use nt_core::Core;
 use nt_explore::Ask;
-use nt_grammar::{LineFault, ScriptFault, Statement};
+use nt_grammar::{LineFault, ScriptFault};
 use nt_hangs::Watch;
-use nt_lines::MAX_LINE;
-use nt_script::{RunFault, Session};
+use nt_script::RunFault;
 use nt_status::Handle;
 use nt_wording::first_line;
 use std::alloc::{AllocError, Global};
@@ -43,13 +38,6 @@ pub(crate) struct Reading {
     closed: Vec<Handle>,
 }
 
-/// Why a line can't be read.
-#[derive(Clone, Copy)]
-pub(crate) enum LaneFault {
-    Line(LineFault),
-    NoThread,
-}
-
 /// Why the line with this number can't be read.
 fn orders_fault_at(line: u64, fault: LaneFault) -> OrdersFault
     ensures { result ≡ at_line line fault }
@@ -60,27 +48,6 @@ fn orders_fault_at(line: u64, fault: LaneFault) -> OrdersFault
     }
 }
 
-/// What a line is.
-#[derive(Drop)]
-pub(crate) enum Found {
-    /// It is carried out before all calls, and may be a creation.
-    Start(Option<Creation>),
-    /// It is left out.
-    Nothing,
-    /// It asks this of the lane with this number.
-    Asks(u32, Ask),
-}
-
-/// The handle that the act makes another one of.
-fn source_of(act: Act) -> Option<Handle>
-    ensures { result ≡ source_of act }
-{
-    match act {
-        Act::Duplicate { handle, .. } => Some(handle),
-        _ => None,
-    }
-}
-
 /// The handle that is closed so.
 fn closed_by(ask: &Ask) -> Option<Handle>
     ensures { result ≡ closed_by (asked ask.now) }
@@ -88,80 +55,6 @@ fn closed_by(ask: &Ask) -> Option<Handle>
     match ask {
         Ask::Call(Call::Act(Act::Close(handle))) => Some(*handle),
         _ => None,
-    }
-}
-
-/// Whether the handle is one of these.
-fn is_one_of(handles: &[Handle], handle: Handle) -> bool
-    ensures { result ≡ list_any (λ it. it == handle) handles.now }
-{
-    handles.iter().any(|it| *it == handle)
-}
-
-/// Whether the handle, if there is one, is one of these.
-fn is_among(handles: &[Handle], sought: Option<Handle>) -> bool
-    ensures { result ≡ is_among handles.now sought }
-{
-    match sought {
-        Some(handle) => is_one_of(handles, handle),
-        None => false,
-    }
-}
-
-/// Whether the creation makes another one of these handles.
-fn is_left_out(closed: &[Handle], creation: &Creation) -> bool
-    ensures { result ≡ is_among closed.now creation.now.source }
-{
-    is_among(closed, creation.source)
-}
-
-/// What a statement is, after lines that close these handles.
-fn found_of(statement: Statement, threads: u32, closed: &[Handle]) -> Result<Found, LaneFault>
-    ensures { IsFoundOf threads closed.now statement result }
-{
-    match statement {
-        Statement::Blank => Ok(Found::Start(None)),
-        Statement::Create {
-            who,
-            name: _name,
-            act,
-        } => {
-            let creation = Creation {
-                who,
-                source: source_of(act),
-            };
-            if is_left_out(closed, &creation) {
-                Ok(Found::Nothing)
-            } else {
-                Ok(Found::Start(Some(creation)))
-            }
-        }
-        Statement::Perform { who, call } => {
-            if who >= threads {
-                Err(LaneFault::NoThread)
-            } else {
-                Ok(Found::Asks(who, Ask::Call(call)))
-            }
-        }
-        Statement::Tick { moment } => Ok(Found::Asks(threads, Ask::Tick(moment))),
-    }
-}
-
-/// What a line after the `threads` line is, after lines that close these handles.
-fn find_in(
-    session: &Session,
-    alloc: Global,
-    closed: &[Handle],
-    line: &[u8],
-) -> Result<Found, LaneFault>
-    ensures { Finds (Some (progress session.now)) closed.now line.now result }
-{
-    if line.len() > MAX_LINE {
-        return Err(LaneFault::Line(LineFault::Script(ScriptFault::LineTooLong)));
-    }
-    match session.read(alloc, line) {
-        Ok(statement) => found_of(statement, session.core().threads(), closed),
-        Err(fault) => Err(LaneFault::Line(fault)),
     }
 }
 
@@ -418,43 +311,6 @@ impl Reading {
         }
         Ok(count)
     }
-}
-
-/// A copy of the session's dispatcher.
-fn copy_of(session: &Session) -> Result<Core, AllocError>
-    ensures { IfOk result (λ core. core ≡ session.now.core) }
-{
-    match session.core().copy() {
-        Ok(core) => Ok(core),
-        Err(_) => Err(AllocError),
-    }
-}
-
-/// The script of these lines, laid out, with a gate for each late creation.
-fn lay_out(
-    alloc: Global,
-    session: Session,
-    objects: Vec<u32>,
-    front: Vec<u8>,
-    items: &[Item],
-) -> Result<Script, AllocError>
-    ensures { IfOk result (λ script. IsLaidOut (state session.core) (map item_of items.now) front.items
-        (lanes_of script) (state script.session.core)) }
-{
-    let mut session = session;
-    let mut core = copy_of(&session)?;
-    let gates = make_gates(&mut core, alloc, count_late(items))?;
-    let Planned { laid, above } = plan_all(alloc, session.core().threads(), &gates, items)?;
-    let Laid { plan, lines, .. } = laid;
-    let _before = session.replace_core(core);
-    Ok(Script {
-        session,
-        objects,
-        plan,
-        lines,
-        front,
-        above,
-    })
 }
 
 /// The script of these `count` lines, once all were read.

@@ -3,7 +3,7 @@ use Rattle.nt_machine.specs.Dispatcher.{Dispatcher, state}
 use Rattle.nt_orders.specs.Gates.{MakesGates, planned_all}
 use Rattle.nt_orders.specs.Reading.{item_of, planned_of}
 use Rattle.nt_orders.proofs.Lines.{laid_out}
-use Rattle.nt_orders.proofs.reading.lay_out.Goals as goal
+use Rattle.nt_orders.proofs.planning.lay_out.Goals as goal
 
 pub returns : goal.returns
 returns c =
