@@ -74,6 +74,10 @@ class Names:
         return answer
 
 
+class Race(ValueError):
+    """The number of the first line after which a handle may name another thing in another order."""
+
+
 class Late:
     """A creation after a call or a tick: its line and thread, the handle that it gave, that of which it is another one, and its gate."""
 
@@ -92,11 +96,21 @@ class Script:
         self.start, self.names = Machine(self.threads), Names()
         self.lanes, self.passed = [[] for _ in range(self.threads + 1)], set()
         read = self.read(lines)
+        named = {handle for _, line, late in read if not late for handle in self.named_by(line)}
         for late in (it for _, _, it in read if it):
-            late.gate = int(self.start.call(0, "event", True, False)[0].split()[1])
+            while (gate := int(self.start.call(0, "event", True, False)[0].split()[1])) in named:
+                self.start.call(0, "close", gate)
+            late.gate = gate
             self.called[f"object {self.start.handles[late.gate][0]}"] = f"(line {late.number} of t{late.who})"
         for at, (number, line, late) in enumerate(read):
+            if late and any(late.handle in self.named_by(other) for _, other, it in read[:at] if not it):
+                raise Race(number)
             self.lay(number, line, late, [it for _, _, it in read[:at] if it])
+
+    def named_by(self, line):
+        """The handles that a call names."""
+        first, *words = line.split()
+        return [] if first == "tick" else handles_in(*self.names.call(words[0], words[1:]))
 
     def read(self, lines):
         """Carries out the creations. Answers the other lines, and among them the creations that are late."""
@@ -121,11 +135,13 @@ class Script:
         first, *rest = line.split()
         lane = self.threads if first == "tick" else int(first[1:])
         begins = [it for it in above if first != "tick" and not self.lanes[lane] and it.source == lane]
-        named = [late.source] if late else [] if first == "tick" else handles_in(*self.names.call(rest[0], rest[1:]))
+        named = [late.source] if late else self.named_by(line)
         for it in begins[:1] + [it for it in above if it.handle in named]:
             if (lane, it.gate) not in self.passed:
                 self.lanes[lane].append((number, f"t{lane} waits for line {it.number}", f"t{lane} any inf plain {it.gate}"))
                 self.passed.add((lane, it.gate))
+        if rest[:1] == ["close"] and any(it.source in named and (lane, it.gate) not in self.passed for it in above):
+            raise Race(number)
         self.lanes[lane].append((number, line, f"t{lane} set {late.gate}" if late else line))
         self.passed |= {(lane, late.gate)} if late else set()
 

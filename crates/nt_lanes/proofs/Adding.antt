@@ -15,7 +15,7 @@ use Rattle.std.proofs.Math.Seq.{map-set_same}
 use Rattle.nt_look.specs.Orders as orders
 use Rattle.nt_look.specs.Orders.{asks, Calls, Passes, Plan}
 use Rattle.nt_lanes.specs.declared.plan.Ask.{Ask}
-use Rattle.nt_lanes.specs.Lanes.{plan_of, asked, IsUnnamed, AreKinds, IsKind, AreTwins, kind_of, names_handle}
+use Rattle.nt_lanes.specs.Lanes.{plan_of, asked, IsUnnamed, AreKinds, IsKind, AreTwins, kind_of, names_handle, plan_names}
 use Rattle.nt_lanes.proofs.Bare.{or_first, or_second}
 
 lane_of : Vec Ask Global → List orders.Ask
@@ -133,6 +133,16 @@ line_unnamed (x ∷ xs) t un =
     neither (names_handle t (asked x)) (list_any (λ (ask : Ask). names_handle t (asked ask)) xs)
     (ask_unnamed t (asked x) (λ call h is. un call h (contains_first (asked x) (map asked xs) (Calls call) is)))
     (line_unnamed xs t (λ call h has. un call h (contains_later (asked x) (map asked xs) (Calls call) has)))
+
+any_mapped : (t : ℕ) (xs : List Ask) → list_any (names_handle t) (map asked xs) ≡ list_any (λ (ask : Ask). names_handle t (asked ask)) xs
+any_mapped t [] = refl
+any_mapped t (x ∷ xs) = ap (λ (b : Bool). names_handle t (asked x) || b) (any_mapped t xs)
+
+-- whether a call of the plan names the handle, in the lists of lanes
+pub any_lane : (lanes : List (Vec Ask Global)) (t : ℕ)
+    → plan_names (plan_of lanes) t ≡ list_any (λ (lane : Vec Ask Global). list_any (λ (ask : Ask). names_handle t (asked ask)) lane.items) lanes
+any_lane [] t = refl
+any_lane (l ∷ lanes) t = λ i. any_mapped t l.items i || any_lane lanes t i
 
 pub unnamed_in : (lanes : List (Vec Ask Global)) (t : ℕ) → IsUnnamed (plan_of lanes) t → list_any (λ (lane : Vec Ask Global). list_any (λ (ask : Ask). names_handle t (asked ask)) lane.items) lanes ≡ false
 unnamed_in [] t un = refl

@@ -54,6 +54,10 @@ abbrev pub names_handle : ℕ → orders.Ask → Bool
 names_handle h (Calls call) = list_any (λ named. named == h) (handles_of call)
 names_handle h (Passes moment) = false
 
+-- a call of the plan names this handle
+abbrev pub plan_names : Plan → ℕ → Bool
+plan_names plan h = list_any (λ asks. list_any (names_handle h) asks) plan
+
 -- two lanes have the same to do, and no call names the handle of one of their threads
 pub record AreTwins (plan : Plan) (a b : ℕ) : Type 0 where
   pub same : asks plan b ≡ asks plan a

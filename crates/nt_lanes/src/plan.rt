@@ -1,11 +1,14 @@
 //! What each thread is to call, one after another.
-ghost use Rattle.std.specs.Prelude.{true, false, ◌≡◌, ◌↔◌, ◌≤◌, ◌<◌, ◌^◌, ◌+◌, ◌++◌, ◌∷◌, [], length, replicate, slice_get, slice_set, IsSome, IfOk, OnOk, OnErr};
+ghost use Rattle.std.specs.Prelude.{true, false, ◌≡◌, ◌==◌, ◌↔◌, ◌≤◌, ◌<◌, ◌^◌, ◌+◌, ◌++◌, ◌∷◌, [], length, replicate, slice_get, slice_set, IsSome, IfOk, OnOk, OnErr};
 ghost use Rattle.std.specs.Option.{option_copied, option_map};
 ghost use Rattle.nt_look.specs.Orders.{asks};
-ghost use Rattle.nt_lanes.specs.Lanes.{asked, IsUnnamed, plan_of};
+ghost use Rattle.std.specs.List.{list_any};
+ghost use Rattle.nt_apart.specs.Fewer.{handles_of};
+ghost use Rattle.nt_calls.specs.declared.call.Call.{Call};
+ghost use Rattle.nt_lanes.specs.Lanes.{asked, IsUnnamed, names_handle, plan_names, plan_of};
 
 use crate::twins::{are_same, lanes_name};
-use nt_calls::Call;
+use nt_calls::{Act, Call, WaitCall};
 use nt_status::{Handle, Moment};
 use std::alloc::{AllocError, Global};
 use std::marker::Model;
@@ -17,6 +20,56 @@ pub enum Ask {
     Call(Call),
     /// All moments up to this one pass, counted in 100 ns.
     Tick(Moment),
+}
+
+/// Whether the act names this handle.
+fn act_names(act: &Act, handle: Handle) -> bool
+    ensures { result ≡ list_any (λ named. named == handle) (handles_of (Call.Act act.now)) }
+{
+    match act {
+        Act::SetEvent(named)
+        | Act::ResetEvent(named)
+        | Act::PulseEvent(named)
+        | Act::ReleaseMutex(named)
+        | Act::CancelTimer(named)
+        | Act::Close(named) => *named == handle,
+        Act::ReleaseSemaphore {
+            semaphore: named,
+            ..
+        } => *named == handle,
+        Act::SetTimer { timer: named, .. } => *named == handle,
+        Act::QueueApc { thread: named, .. } => *named == handle,
+        Act::Duplicate { handle: named, .. } => *named == handle,
+        _ => false,
+    }
+}
+
+/// Whether the wait names this handle.
+fn wait_names(wait: &WaitCall, handle: Handle) -> bool
+    ensures { result ≡ list_any (λ named. named == handle) (handles_of (Call.Wait wait.now)) }
+{
+    match wait {
+        WaitCall::Objects { handles, .. } => handles
+            .as_slice()
+            .iter()
+            .any(|named| *named == handle),
+        WaitCall::Sleep(_) => false,
+        WaitCall::Swap { signal, object, .. } => *signal == handle || *object == handle,
+    }
+}
+
+impl Ask {
+    /// Whether it is a call that names this handle.
+    pub fn names(&self, handle: Handle) -> bool
+        ensures { result ≡ names_handle handle (asked self.now) }
+    {
+        match self {
+            Ask::Call(Call::Act(act)) => act_names(act, handle),
+            Ask::Call(Call::Wait(wait)) => wait_names(wait, handle),
+            Ask::Call(Call::Exit) => false,
+            Ask::Tick(_) => false,
+        }
+    }
 }
 
 /// For each thread what it is to do, in order; and after the threads' lanes one for the ticks.
@@ -110,10 +163,11 @@ impl Plan {
         are_same(&self.lanes[b as usize], &self.lanes[a as usize])
     }
 
-    /// Whether a call names the thread's handle.
-    pub(crate) fn names(&self, thread: u32) -> bool
-        ensures { (result ≡ false) ↔ IsUnnamed self.now thread }
+    /// Whether a call names this handle.
+    pub fn names(&self, handle: Handle) -> bool
+        ensures names { result ≡ plan_names self.now handle }
+        ensures unnamed { (result ≡ false) ↔ IsUnnamed self.now handle }
     {
-        lanes_name(&self.lanes, Handle::new(thread))
+        lanes_name(&self.lanes, handle)
     }
 }

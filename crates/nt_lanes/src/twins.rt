@@ -1,12 +1,11 @@
 //! Which lanes have the same to do.
-ghost use Rattle.std.specs.Prelude.{◌≡◌, ◌↔◌, ◌<◌, ◌==◌, true, length, map, IfOk};
+ghost use Rattle.std.specs.Prelude.{◌≡◌, ◌↔◌, ◌<◌, false, true, length, map, IfOk};
 ghost use Rattle.std.specs.List.{list_any};
 ghost use Rattle.nt_machine.specs.Dispatcher.{state};
-ghost use Rattle.nt_apart.specs.Fewer.{handles_of};
-ghost use Rattle.nt_lanes.specs.Lanes.{asked, names_handle, AreTwins, IsKind, AreKinds};
+ghost use Rattle.nt_lanes.specs.Lanes.{asked, names_handle, AreTwins, IsKind, AreKinds, IsUnnamed};
 
 use crate::plan::{Ask, Plan};
-use nt_calls::{Act, Call, WaitCall};
+use nt_calls::{Call, WaitCall};
 use nt_core::Core;
 use nt_status::{Handle, Handles};
 use std::alloc::{AllocError, Global};
@@ -101,76 +100,18 @@ pub fn are_same(a: &[Ask], b: &[Ask]) -> bool
     true
 }
 
-/// Whether the act names this handle.
-fn act_names(act: &Act, handle: Handle) -> bool
-    ensures { result ≡ list_any (λ named. named == handle) (handles_of (Call.Act act.now)) }
-{
-    match act {
-        Act::SetEvent(named) => *named == handle,
-        Act::ResetEvent(named) => *named == handle,
-        Act::PulseEvent(named) => *named == handle,
-        Act::ReleaseSemaphore {
-            semaphore,
-            count: _,
-        } => *semaphore == handle,
-        Act::ReleaseMutex(named) => *named == handle,
-        Act::SetTimer {
-            timer,
-            due: _,
-            period: _,
-            routine: _,
-        } => *timer == handle,
-        Act::CancelTimer(named) => *named == handle,
-        Act::QueueApc {
-            thread,
-            routine: _,
-            arg: _,
-        } => *thread == handle,
-        Act::Duplicate {
-            handle: named,
-            access: _,
-        } => *named == handle,
-        Act::Close(named) => *named == handle,
-        _ => false,
-    }
-}
-
-/// Whether the wait names this handle.
-fn wait_names(wait: &WaitCall, handle: Handle) -> bool
-    ensures { result ≡ list_any (λ named. named == handle) (handles_of (Call.Wait wait.now)) }
-{
-    match wait {
-        WaitCall::Objects {
-            handles,
-            all: _,
-            mode: _,
-        } => handles.as_slice().iter().any(|named| *named == handle),
-        WaitCall::Sleep(_) => false,
-        WaitCall::Swap {
-            signal,
-            object,
-            mode: _,
-        } => *signal == handle || *object == handle,
-    }
-}
-
-/// Whether what is asked names this handle.
-fn ask_names(ask: &Ask, handle: Handle) -> bool
-    ensures { result ≡ names_handle handle (asked ask.now) }
-{
-    match ask {
-        Ask::Call(Call::Act(act)) => act_names(act, handle),
-        Ask::Call(Call::Wait(wait)) => wait_names(wait, handle),
-        Ask::Call(Call::Exit) => false,
-        Ask::Tick(_) => false,
-    }
-}
-
 /// Whether one of these names this handle.
 fn one_names(asks: &[Ask], handle: Handle) -> bool
     ensures { result ≡ list_any (λ ask. names_handle handle (asked ask)) asks.now }
 {
-    asks.iter().any(|ask| ask_names(ask, handle))
+    asks.iter().any(|ask| ask.names(handle))
+}
+
+/// Whether a call names the thread's own handle.
+fn is_named(plan: &Plan, thread: u32) -> bool
+    ensures { (result ≡ false) ↔ IsUnnamed plan.now thread }
+{
+    plan.names(Handle::new(thread))
 }
 
 /// Whether both have the same to do, and no call names the handle of one of the two.
@@ -179,10 +120,10 @@ fn is_twin(plan: &Plan, lower: u32, lane: u32) -> bool
     requires second { lane < length plan.now }
     ensures { (result ≡ true) ↔ AreTwins plan.now lower lane }
 {
-    if !plan.are_same(lower, lane) || plan.names(lower) {
+    if !plan.are_same(lower, lane) || is_named(plan, lower) {
         return false;
     }
-    !plan.names(lane)
+    !is_named(plan, lane)
 }
 
 /// The lowest twin of the lane; the lane itself if it has none.

@@ -1,18 +1,21 @@
 -- Lines as they are read, each in its lane.
-use Rattle.std.proofs.Common.{◌≡◌, ℕ, ◌<◌, List, [], ◌∷◌, ◌++◌, length, map, set, get_or, sym, ap, subst, ◌∙◌, ◌+◌, ◌≤◌, Option, None, Some, refl, arith, inl, inr}
-use Rattle.std.specs.Prelude.{Vec, Result, Ok, Err, IfOk, IfErr, count_by}
+use Rattle.std.proofs.Common.{◌≡◌, ℕ, zero, suc, ◌<◌, Bool, true, false, not, ◌||◌, List, [], ◌∷◌, ◌++◌, length, map, drop, take, set, get_or, sym, ap, subst, ◌∙◌, ◌+◌, ◌≤◌, Option, None, Some, refl, arith, inl, inr}
+use Rattle.std.specs.Prelude.{Vec, Result, Ok, Err, IfOk, IfErr, if◌then◌else◌, slice_get}
 use Rattle.std.specs.declared.alloc.Global.{Global}
 use Rattle.std.proofs.lemmas.List.{map-set, map-append, get_or-map}
+use Rattle.std.proofs.lemmas.List.Elements.{filter-append}
+use Rattle.std.specs.List.{fold, list_any}
 use Rattle.nt_orders.specs.declared.lanes.Line.{Line}
-use Rattle.nt_orders.specs.Gates.{Item, MakesGate, MakesGates, Planned, is_late, lanes_with, planned_all, with_text}
-use Rattle.nt_orders.specs.Plans.{Gone, IsLaidOut, IsPlanOf, IsUnreadable, Read, Reads, ReadsAll, Stops, unread}
-use Rattle.nt_orders.specs.Reading.{line_bytes, texts_of, IsLaneFault, IsLateFault, IsScriptOf, ReadSoFar, at_line, lanes_of}
+use Rattle.nt_orders.specs.Gates.{ClosesIf, Item, MakesEvents, MakesGate, MakesGates, Planned, first_race, gates_of, is_named, lanes_with, names, planned_all, planned_on, race_of, races, with_text}
+use Rattle.nt_orders.specs.Plans.{AreGates, Gone, IsLaidOut, IsPlanOf, IsRace, IsUnreadable, Read, Reads, ReadsAll, Stops, unread}
+use Rattle.nt_orders.specs.Reading.{line_bytes, texts_of, IsLaneFault, IsLateFault, IsPlanFault, IsRaceOf, IsScriptOf, ReadSoFar, at_line, does_of, item_of, lanes_of}
 use Rattle.nt_status.specs.declared.limits.TheConstants.{MAX_THREADS}
 use Rattle.nt_calls.specs.State.{State}
 use Rattle.nt_machine.specs.Dispatcher.{state}
 use Rattle.nt_lines.specs.Lines.{lines_of}
 use Rattle.nt_script.specs.Progress.{AreCounted, Progress}
 use Rattle.nt_orders.specs.declared.lanes.Script.{Script}
+use Rattle.nt_orders.specs.declared.items.Item as kept
 use Rattle.nt_orders.specs.declared.items.LaneFault.{LaneFault}
 use Rattle.nt_orders.specs.declared.fault.OrdersFault.{OrdersFault}
 use Rattle.nt_orders.specs.Ending.{IsFirstFault}
@@ -103,20 +106,127 @@ all_read input (byte ∷ rest) count now s none = absurd (omega (arith, none))
 
 -- ---- the script
 
--- a gate more is made
-pub gate_more : (old mid new : State) (gates : List ℕ) (gate : ℕ) → MakesGates old gates mid → MakesGate mid gate new → MakesGates old (gates ++ gate ∷ []) new
-gate_more old mid new [] gate same made = (new, subst (λ (s : State). MakesGate s gate new) same made, refl)
-gate_more old mid new (first ∷ gates) gate (next, makes, rest) made = (next, makes, gate_more next mid new gates gate rest made)
+-- an event more is made
+event_more : (items : List Item) (old mid next new : State) (events : List ℕ) (event : ℕ) → MakesEvents items old events mid → MakesGate mid event next
+    → ClosesIf (is_named items event) next event new → MakesEvents items old (events ++ event ∷ []) new
+event_more items old mid next new [] event same made closes = (next, new, subst (λ (s : State). MakesGate s event next) same made, closes, refl)
+event_more items old mid next new (first ∷ events) event (one, two, makes, closed, rest) made closes =
+    (one, two, makes, closed, event_more items two mid next new events event rest made closes)
+
+-- whether one of the lines names the handle
+any_item : (handle : ℕ) (items : List kept.Item) → list_any (λ (item : kept.Item). names (does_of item.does) handle) items ≡ is_named (map item_of items) handle
+any_item handle [] = refl
+any_item handle (item ∷ items) = ap (λ (b : Bool). names (does_of item.does) handle || b) (any_item handle items)
+
+pub named_if_any : (handle : ℕ) (items : List kept.Item) (any : Bool) → any ≡ list_any (λ (item : kept.Item). names (does_of item.does) handle) items
+    → any ≡ is_named (map item_of items) handle
+named_if_any handle items any is = is ∙ any_item handle items
+
+-- none is made yet
+pub gates_none : (items : List Item) (s : State) → MakesGates items s [] s
+gates_none items s = record { events = []; made = refl; are = refl }
+
+pub gates_more : (items : List Item) (old mid next new : State) (gates later : List ℕ) (event : ℕ) → MakesGates items old gates mid → MakesGate mid event next
+    → ClosesIf (is_named items event) next event new → later ≡ gates ++ gates_of items (event ∷ []) → MakesGates items old later new
+gates_more items old mid next new gates later event so made closes is = record {
+  events = so.events ++ event ∷ [];
+  made = event_more items old mid next new so.events event so.made made closes;
+  are = is ∙ (ap (λ (l : List ℕ). l ++ gates_of items (event ∷ [])) so.are ∙ sym (filter-append (λ (event : ℕ). not (is_named items event)) so.events (event ∷ [])));
+}
+
+-- ---- races
+
+-- whether this line is a race, or a later one
+pub race_on : (threads : ℕ) (gates : List ℕ) (old : Planned) (items : List Item) (i : ℕ) (item : Item) → slice_get items i ≡ Some item
+    → first_race threads gates old (drop i items) ≡ (if races threads old item then Some item.number else first_race threads gates (planned_on threads gates old item) (drop (i + 1) items))
+race_on threads gates old [] i item is = let no : None ≡ Some item = is in (cc)
+race_on threads gates old (x ∷ items) zero item is =
+    let same : x ≡ item = (cc) in
+    ap (λ (y : Item). if races threads old y then Some y.number else first_race threads gates (planned_on threads gates old y) items) same
+race_on threads gates old (x ∷ items) (suc i) item is =
+    let more : suc i + 1 ≡ suc (i + 1) = omega arith in
+    race_on threads gates old items i item is
+    ∙ ap (λ (k : ℕ). if races threads old item then Some item.number else first_race threads gates (planned_on threads gates old item) (drop k (x ∷ items))) (sym more)
+
+-- this line is none
+pub no_race_here : (threads : ℕ) (gates : List ℕ) (old new : Planned) (items : List Item) (i : ℕ) (item : Item) (first : Option ℕ) → slice_get items i ≡ Some item
+    → races threads old item ≡ false → new ≡ planned_on threads gates old item → first ≡ first_race threads gates old (drop i items)
+    → first ≡ first_race threads gates new (drop (i + 1) items)
+no_race_here threads gates old new items i item first is none on so =
+    so ∙ (race_on threads gates old items i item is
+    ∙ (ap (λ (b : Bool). if b then Some item.number else first_race threads gates (planned_on threads gates old item) (drop (i + 1) items)) none
+    ∙ ap (λ (p : Planned). first_race threads gates p (drop (i + 1) items)) (sym on)))
+
+-- this line is one
+race_here : (threads : ℕ) (gates : List ℕ) (old : Planned) (items : List Item) (i : ℕ) (item : Item) (first : Option ℕ) → slice_get items i ≡ Some item
+    → first ≡ first_race threads gates old (drop i items) → races threads old item ≡ true → first ≡ Some item.number
+race_here threads gates old items i item first is so race =
+    so ∙ (race_on threads gates old items i item is
+    ∙ ap (λ (b : Bool). if b then Some item.number else first_race threads gates (planned_on threads gates old item) (drop (i + 1) items)) race)
+
+-- the same of the fault that this line has
+pub race_fault : (threads : ℕ) (gates : List ℕ) (old : Planned) (items : List Item) (i : ℕ) (item : Item) (first : Option ℕ) (fault : OrdersFault) → slice_get items i ≡ Some item
+    → first ≡ first_race threads gates old (drop i items) → IsPlanFault (λ line. (line ≡ item.number) × (races threads old item ≡ true)) fault
+    → IsPlanFault (λ line. first ≡ Some line) fault
+race_fault threads gates old items i item first (orders.Race line) is so (same, race) =
+    race_here threads gates old items i item first is so race ∙ ap (λ (n : ℕ). Some n) (sym same)
+race_fault threads gates old items i item first orders.Memory is so at = tt
+race_fault threads gates old items i item first (orders.NoThread line) is so at = at
+race_fault threads gates old items i item first (orders.Run fault) is so at = at
+
+-- a line more is planned
+pub planned_more : (step : Planned → Item → Planned) (start : Planned) (items : List kept.Item) (i : ℕ) (d : kept.Item) → i < length items
+    → fold step start (map item_of (take (i + 1) items)) ≡ step (fold step start (map item_of (take i items))) (item_of (get_or items i d))
+planned_more step start [] i d below = absurd (omega (arith, below))
+planned_more step start (x ∷ items) zero d below = refl
+planned_more step start (x ∷ items) (suc i) d below =
+    let more : suc i + 1 ≡ suc (i + 1) = omega arith in
+    ap (λ (n : ℕ). fold step start (map item_of (take n (x ∷ items)))) more ∙ planned_more step (step start (item_of x)) items i d (omega (arith, below))
+
+-- a line, among all
+pub item_there : (items : List kept.Item) (i : ℕ) (item : kept.Item) → i < length items → item ≡ get_or items i item → slice_get (map item_of items) i ≡ Some (item_of item)
+item_there [] i item below is = absurd (omega (arith, below))
+item_there (x ∷ items) zero item below is = ap (λ (y : kept.Item). Some (item_of y)) (sym is)
+item_there (x ∷ items) (suc i) item below is = item_there items i item (omega (arith, below)) is
+
+-- ---- lanes
 
 -- the lanes of lines whose gates were made
-pub laid_out : (start : State) (items : List Item) (front gates : List ℕ) (s : State) (threads : ℕ) (all : Planned) → MakesGates start gates s
-    → length gates ≡ count_by is_late items → threads ≡ start.threads → all ≡ planned_all threads gates items → IsLaidOut start items front (lanes_with all.laid front) s
-laid_out start items front gates s threads all made each same is = record {
+pub laid_out : (start : State) (items : List Item) (front gates : List ℕ) (s : State) (threads : ℕ) (all : Planned) → AreGates start items gates s
+    → threads ≡ start.threads → race_of threads gates items ≡ None → all ≡ planned_all threads gates items → IsLaidOut start items front (lanes_with all.laid front) s
+laid_out start items front gates s threads all made same apart is = record {
   gates = gates;
   made = made;
-  each = each;
+  apart = ap (λ (n : ℕ). race_of n gates items) (sym same) ∙ apart;
   planned = ap (λ (p : Planned). lanes_with p.laid front) (is ∙ ap (λ (n : ℕ). planned_all n gates items) same);
 }
+
+-- why these lines are not planned
+pub not_laid_out : (start : State) (items : List Item) (gates : List ℕ) (s : State) (threads : ℕ) (fault : OrdersFault) → AreGates start items gates s
+    → threads ≡ start.threads → IsPlanFault (λ line. race_of threads gates items ≡ Some line) fault → IsPlanFault (IsRace start items) fault
+not_laid_out start items gates s threads (orders.Race line) made same first =
+    record { gates = gates; s = s; made = made; first = ap (λ (n : ℕ). race_of n gates items) (sym same) ∙ first }
+not_laid_out start items gates s threads orders.Memory made same first = tt
+not_laid_out start items gates s threads (orders.NoThread line) made same first = first
+not_laid_out start items gates s threads (orders.Run fault) made same first = first
+
+-- a script that is laid out, or why it is not
+pub script_if_ok : (read : Read) (now : Progress) (result : Result Script OrdersFault) → read.seen.now ≡ Some now
+    → IfOk result (λ script. IsLaidOut now.state read.items read.front (lanes_of script) (state script.session.core)) → IfOk result (IsScriptOf read)
+script_if_ok read now (Ok script) is laid = record { now = now; is = is; laid = laid }
+script_if_ok read now (Err fault) is laid = tt
+
+late_if_err : (read : Read) (now : Progress) (number : ℕ) (fault : OrdersFault) → read.seen.now ≡ Some now → IsPlanFault (IsRace now.state read.items) fault
+    → IsPlanFault (IsRaceOf read) fault
+late_if_err read now number (orders.Race line) is race = record { now = now; is = is; first = race }
+late_if_err read now number orders.Memory is race = tt
+late_if_err read now number (orders.NoThread line) is race = race
+late_if_err read now number (orders.Run fault) is race = race
+
+pub race_if_err : (read : Read) (now : Progress) (number : ℕ) (result : Result Script OrdersFault) → read.seen.now ≡ Some now
+    → IfErr result (IsPlanFault (IsRace now.state read.items)) → IfErr result (IsLateFault number read)
+race_if_err read now number (Ok script) is race = tt
+race_if_err read now number (Err fault) is race = inr (late_if_err read now number fault is race)
 
 -- what was read is its plan
 is_plan : (input : List ℕ) (read : Read) (script : Script) → ReadsAll 1 unread (lines_of input) read → IsScriptOf read script
@@ -129,20 +239,30 @@ pub plan_if_ok : (input : List ℕ) (read : Read) (result : Result Script Orders
 plan_if_ok input read (Ok script) reads is = is_plan input read script reads is
 plan_if_ok input read (Err fault) reads is = tt
 
+-- no line that can't be read is a race
+never_race : (number : ℕ) (old : Read) (lines : List (List ℕ)) (line : ℕ) → Stops number old lines (orders.Race line) → ⊥
+never_race number old [] line (none, is) = (cc)
+never_race number old (bytes ∷ lines) line (inl here) = here
+never_race number old (bytes ∷ lines) line (inr (mid, reads, later)) = never_race (number + 1) mid lines line later
+
 -- what stops the reading is the first fault
 pub first_fault : (input : List ℕ) (fault : OrdersFault) → Stops 1 unread (lines_of input) fault → IsFirstFault input fault
 first_fault input (orders.Run fault) stops = stops
 first_fault input (orders.NoThread line) stops = stops
+first_fault input (orders.Race line) stops = absurd (never_race 1 unread (lines_of input) line stops)
 first_fault input orders.Memory stops = tt
 
--- so is that there is no `threads` line; and memory may be refused
+-- so is that there is no `threads` line; else two lines may race, or memory was refused
 late_fault : (input : List ℕ) (count : ℕ) (now : Read) (fault : OrdersFault) → ((fault : OrdersFault) → Stops (count + 1) now [] fault → Stops 1 unread (lines_of input) fault)
-    → IsLateFault (count + 1) now fault → IsFirstFault input fault
-late_fault input count now fault stops (inl memory) = rw memory tt
-late_fault input count now fault stops (inr (none, is)) = first_fault input fault (stops fault (none, is))
+    → ReadsAll 1 unread (lines_of input) now → IsLateFault (count + 1) now fault → IsFirstFault input fault
+late_fault input count now fault stops reads (inl (none, is)) = first_fault input fault (stops fault (none, is))
+late_fault input count now (orders.Race line) stops reads (inr race) = record { read = now; now = race.now; reads = reads; is = race.is; first = race.first }
+late_fault input count now orders.Memory stops reads (inr memory) = tt
+late_fault input count now (orders.NoThread line) stops reads (inr none) = absurd none
+late_fault input count now (orders.Run fault) stops reads (inr none) = absurd none
 
 -- the same where there is a script, or none
 pub fault_if_err : (input : List ℕ) (count : ℕ) (now : Read) (result : Result Script OrdersFault) → ((fault : OrdersFault) → Stops (count + 1) now [] fault → Stops 1 unread (lines_of input) fault)
-    → IfErr result (IsLateFault (count + 1) now) → IfErr result (IsFirstFault input)
-fault_if_err input count now (Ok script) stops is = tt
-fault_if_err input count now (Err fault) stops is = late_fault input count now fault stops is
+    → ReadsAll 1 unread (lines_of input) now → IfErr result (IsLateFault (count + 1) now) → IfErr result (IsFirstFault input)
+fault_if_err input count now (Ok script) stops reads is = tt
+fault_if_err input count now (Err fault) stops reads is = late_fault input count now fault stops reads is

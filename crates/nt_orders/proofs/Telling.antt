@@ -164,6 +164,7 @@ cut_at_end most lanes s sink sink' told (met, looked, search, course) =
 pub told_none : (most : ℕ) (input : List ℕ) (fault : OrdersFault) (sink : Writing) → EndsEarly most input fault sink sink
 told_none most input (orders.Run fault) sink = refl
 told_none most input (orders.NoThread line) sink = refl
+told_none most input (orders.Race line) sink = refl
 told_none most input orders.Memory sink = inl refl
 
 pub told_fault : (fault : OrdersFault) (line : List ℕ) (errors errors' : Writing) (status : ℕ) → line ≡ order_message fault → Says errors errors' line → status ≡ order_status fault

@@ -15,7 +15,7 @@ use Rattle.nt_hangs.specs.Watching.{before_zero}
 use Rattle.nt_orders.specs.Texts.{order_message, order_status}
 use Rattle.nt_look.specs.Orders.{steps}
 use Rattle.nt_orders.specs.Gates.{Lanes}
-use Rattle.nt_orders.specs.Plans.{IsPlanOf, Stops, order_text, unread}
+use Rattle.nt_orders.specs.Plans.{IsPlanOf, IsRaceIn, Stops, order_text, unread}
 use Rattle.nt_orders.specs.Progress.{TellsCourse}
 use Rattle.nt_orders.specs.declared.fault.OrdersFault.{OrdersFault}
 use Rattle.nt_orders.specs.declared.report.Findings.{Findings}
@@ -54,16 +54,19 @@ PlanIsJudged most lanes s progress progress' found =
     × (option_map (λ text. text.items) found.order ≡ order_of lanes told.verdict)
     × IsSearched most lanes s progress progress' told
 
--- This is the script's first fault: a line can't be read, or there is no `threads` line. Or memory was refused, and to no line.
+-- This is the script's first fault: a line can't be read, or there is no `threads` line; or all are read, and two may race. Or memory was refused, and
+-- to no line.
 abbrev pub IsFirstFault : List ℕ → OrdersFault → Type 0
 IsFirstFault input (orders.Run fault) = Stops 1 unread (lines_of input) (orders.Run fault)
 IsFirstFault input (orders.NoThread line) = Stops 1 unread (lines_of input) (orders.NoThread line)
+IsFirstFault input (orders.Race line) = IsRaceIn input line
 IsFirstFault input orders.Memory = Unit {0}
 
 -- Where a line has a fault there is no search to tell of; and where memory was refused none, or one that was cut off.
 abbrev pub EndsEarly : (most : ℕ) → List ℕ → OrdersFault → (progress progress' : Writing) → Type 0
 EndsEarly most input (orders.Run fault) progress progress' = progress' ≡ progress
 EndsEarly most input (orders.NoThread line) progress progress' = progress' ≡ progress
+EndsEarly most input (orders.Race line) progress progress' = progress' ≡ progress
 EndsEarly most input orders.Memory progress progress' =
     (progress' ≡ progress) ⊎ ((lanes : Lanes) × (s : State) × IsPlanOf input lanes s × IsCutOff most lanes s progress progress')
 

@@ -1,7 +1,7 @@
 -- Gates: a late creation, one after a call, is a step of its lane too. It is made before all calls, so that each handle keeps its number, and an
 -- event that no line names, its gate, is set when its line goes. What names its handle in another lane waits for the gate first.
-use Rattle.std.specs.Prelude.{◌≡◌, ℕ, ◌+◌, ◌==◌, ◌&&◌, ◌++◌, nat_lt, Bool, true, false, not, List, [], ◌∷◌, length, replicate, slice_get, slice_set, slice_index_or, Option, None, Some, is_some, Result, if◌then◌else◌, codes}
-use Rattle.std.specs.List.{find, fold, list_any}
+use Rattle.std.specs.Prelude.{◌≡◌, ℕ, ◌+◌, ◌==◌, ◌&&◌, ◌++◌, nat_lt, Bool, true, false, not, List, [], ◌∷◌, length, replicate, slice_get, slice_set, slice_index_or, Option, None, Some, is_some, Result, Ok, if◌then◌else◌, codes}
+use Rattle.std.specs.List.{filter, find, fold, list_any}
 use Rattle.std.specs.Fmt.{decimal}
 use Rattle.nt_status.specs.declared.limits.TheConstants.{INFINITE}
 use Rattle.nt_status.specs.declared.refusal.Refusal.{Refusal}
@@ -14,7 +14,7 @@ use Rattle.nt_calls.specs.declared.call.Reply.{Reply}
 use Rattle.nt_calls.specs.declared.call.Grant.{Grant}
 use Rattle.nt_grammar.specs.Naming.{handle_of}
 use Rattle.nt_look.specs.Orders.{Ask, Calls, Plan, asks}
-use Rattle.nt_lanes.specs.Lanes.{names_handle}
+use Rattle.nt_lanes.specs.Lanes.{names_handle, plan_names}
 use Rattle.nt_orders.specs.declared.laying.Made.{Made}
 use Rattle.nt_orders.specs.declared.laying.Pass.{Pass}
 
@@ -139,6 +139,23 @@ abbrev pub after_all : ℕ → List Made → Laid → Item → Laid
 after_all threads above laid item =
     fold (after_if_named item.lane item.does) (after_beginning threads above item.lane laid) above
 
+-- ---- races
+
+-- the handle that is closed so
+abbrev pub closed_by : Ask → Option ℕ
+closed_by (Calls (Call.Act (Act.Close handle))) = Some handle
+closed_by ask = None
+
+-- the line closes this handle, if it is one
+abbrev pub closes : Does → Option ℕ → Bool
+closes does None = false
+closes (Asks ask) (Some handle) = is_handle handle (closed_by ask)
+closes (Makes made source) (Some handle) = false
+
+-- the line closes what this late creation makes another handle of, and its lane has not passed the gate: either of the two may go first
+abbrev pub may_close_first : Laid → Item → Made → Bool
+may_close_first laid item made = closes item.does made.source && not (has_passed laid.passed item.lane made.gate)
+
 -- ---- all lines
 
 -- what was planned so far, and the late creations above
@@ -168,9 +185,33 @@ abbrev pub planned_on : ℕ → List ℕ → Planned → Item → Planned
 planned_on threads gates old item =
     goes_last gates (record { laid = after_all threads old.above old.laid item; above = old.above }) item item.does
 
+-- nothing is planned yet
+abbrev pub none_planned : ℕ → Planned
+none_planned threads = record { laid = none_laid threads; above = [] }
+
 -- these lines are planned, with these gates
 abbrev pub planned_all : ℕ → List ℕ → List Item → Planned
-planned_all threads gates items = fold (planned_on threads gates) (record { laid = none_laid threads; above = [] }) items
+planned_all threads gates items = fold (planned_on threads gates) (none_planned threads) items
+
+-- What a line makes or closes may be another thing in another order: it closes a handle of which a late creation above it makes another one, and neither
+-- has to wait for the other; or it gives a handle whose number a line above it names.
+abbrev pub is_race : List Made → Laid → Item → Does → Bool
+is_race above laid item (Asks ask) = list_any (may_close_first laid item) above
+is_race above laid item (Makes handle source) = plan_names laid.plan handle
+
+-- so it is of this line, once that waited for what it has to
+abbrev pub races : ℕ → Planned → Item → Bool
+races threads old item = is_race old.above (after_all threads old.above old.laid item) item item.does
+
+-- the number of the first such line
+abbrev pub first_race : ℕ → List ℕ → Planned → List Item → Option ℕ
+first_race threads gates old [] = None
+first_race threads gates old (item ∷ items) =
+    if races threads old item then Some item.number else first_race threads gates (planned_on threads gates old item) items
+
+-- the same of all lines
+abbrev pub race_of : ℕ → List ℕ → List Item → Option ℕ
+race_of threads gates items = first_race threads gates (none_planned threads) items
 
 -- the lanes that are laid out so, after this text
 abbrev pub lanes_with : Laid → List ℕ → Lanes
@@ -187,7 +228,26 @@ abbrev pub MakesGate : State → ℕ → State → Type 0
 MakesGate old gate new =
     (result : Result Reply Refusal) × (grants : List Grant) × (handle_of result ≡ Some gate) × Called old 0 (Call.Act (Act.CreateEvent 1)) result grants new
 
--- such events are made, one after another
-abbrev pub MakesGates : State → List ℕ → State → Type 0
-MakesGates old [] new = new ≡ old
-MakesGates old (gate ∷ gates) new = (mid : State) × MakesGate old gate mid × MakesGates mid gates new
+-- one of these lines names the handle
+abbrev pub is_named : List Item → ℕ → Bool
+is_named items handle = list_any (λ item. names item.does handle) items
+
+-- an event that is closed at once where this says so
+abbrev pub ClosesIf : Bool → State → ℕ → State → Type 0
+ClosesIf false old event new = new ≡ old
+ClosesIf true old event new = (reply : Reply) × (grants : List Grant) × Called old 0 (Call.Act (Act.Close event)) (Ok reply) grants new
+
+-- such events are made, one after another, and each that a line names is closed at once, so that the line is refused as in the script
+abbrev pub MakesEvents : List Item → State → List ℕ → State → Type 0
+MakesEvents items old [] new = new ≡ old
+MakesEvents items old (event ∷ events) new =
+    (mid left : State) × MakesGate old event mid × ClosesIf (is_named items event) mid event left × MakesEvents items left events new
+
+-- the gates are those of them that no line names
+abbrev pub gates_of : List Item → List ℕ → List ℕ
+gates_of items events = filter (λ event. not (is_named items event)) events
+
+pub record MakesGates (items : List Item) (old : State) (gates : List ℕ) (new : State) : Type 0 where
+  pub events : List ℕ
+  pub made : MakesEvents items old events new
+  pub are : gates ≡ gates_of items events

@@ -3,7 +3,6 @@ use Rattle.std.specs.Prelude.{◌≡◌, ◌⊎◌, ℕ, ◌+◌, ◌<◌, ◌==
 use Rattle.std.specs.List.{fold, list_any}
 use Rattle.nt_calls.specs.State.{State}
 use Rattle.nt_calls.specs.declared.call.Act.{Act}
-use Rattle.nt_calls.specs.declared.call.Call.{Call}
 use Rattle.nt_tables.specs.Handles.{opened_at}
 use Rattle.nt_look.specs.Orders.{Ask, Calls, Passes}
 use Rattle.nt_lines.specs.Lines.{lines_of}
@@ -15,7 +14,7 @@ use Rattle.nt_script.specs.declared.fault.RunFault.TheVariants as run
 use Rattle.nt_grammar.specs.declared.parser.Statement.{Statement}
 use Rattle.nt_grammar.specs.declared.parser.Statement.TheVariants.{Blank, Create, Perform, Tick}
 use Rattle.nt_hangs.specs.Watching.{Seen, Sees, names_of, unseen}
-use Rattle.nt_orders.specs.Gates.{Item, Lanes, MakesGates, Texts, is_late, planned}
+use Rattle.nt_orders.specs.Gates.{Item, Lanes, MakesGates, Texts, closed_by, is_late, planned, race_of}
 use Rattle.nt_orders.specs.Gates as gates
 use Rattle.nt_orders.specs.declared.fault.OrdersFault.{OrdersFault}
 use Rattle.nt_orders.specs.declared.fault.OrdersFault.TheVariants as orders
@@ -95,11 +94,6 @@ pub record Read : Type 0 where
 abbrev pub unread : Read
 unread = record { seen = unseen; front = []; items = []; closed = [] }
 
--- the handle that is closed so
-abbrev pub closed_by : Ask → Option ℕ
-closed_by (Calls (Call.Act (Act.Close handle))) = Some handle
-closed_by ask = None
-
 -- the handle names something before all calls
 abbrev pub is_open : Option Progress → ℕ → Bool
 is_open None handle = false
@@ -155,12 +149,24 @@ abbrev pub ReadsAll : ℕ → Read → List (List ℕ) → Read → Type 0
 ReadsAll number old [] new = new ≡ old
 ReadsAll number old (bytes ∷ lines) new = (mid : Read) × Reads number bytes old mid × ReadsAll (number + 1) mid lines new
 
--- In the state to which what a script creates leads, a gate is made for each late creation. These are the lanes of its lines then, and that the state.
+-- In the state to which what a script creates leads, a gate is made for each late creation, and then the state is this one.
+pub record AreGates (start : State) (items : List Item) (gates : List ℕ) (s : State) : Type 0 where
+  pub made : MakesGates items start gates s
+  pub each : length gates ≡ count_by is_late items
+
+-- These are the lanes of the script's lines then, and each handle names in all orders what it does in the script's own.
 pub record IsLaidOut (start : State) (items : List Item) (front : List ℕ) (lanes : Lanes) (s : State) : Type 0 where
   pub gates : List ℕ
-  pub made : MakesGates start gates s
-  pub each : length gates ≡ count_by is_late items
+  pub made : AreGates start items gates s
+  pub apart : race_of start.threads gates items ≡ None
   pub planned : lanes ≡ planned start.threads gates front items
+
+-- This is the first line after which a handle may name another thing in another order.
+pub record IsRace (start : State) (items : List Item) (line : ℕ) : Type 0 where
+  pub gates : List ℕ
+  pub s : State
+  pub made : AreGates start items gates s
+  pub first : race_of start.threads gates items ≡ Some line
 
 -- The script in these bytes is these lanes, from this state.
 pub record IsPlanOf (input : List ℕ) (lanes : Lanes) (s : State) : Type 0 where
@@ -169,6 +175,14 @@ pub record IsPlanOf (input : List ℕ) (lanes : Lanes) (s : State) : Type 0 wher
   pub reads : ReadsAll 1 unread (lines_of input) read
   pub is : read.seen.now ≡ Some now
   pub laid : IsLaidOut now.state read.items read.front lanes s
+
+-- The same of the script in these bytes.
+pub record IsRaceIn (input : List ℕ) (line : ℕ) : Type 0 where
+  pub read : Read
+  pub now : Progress
+  pub reads : ReadsAll 1 unread (lines_of input) read
+  pub is : read.seen.now ≡ Some now
+  pub first : IsRace now.state read.items line
 
 -- ---- an order as a script
 
@@ -221,6 +235,7 @@ IsUnreadable now number bytes (orders.Run (run.Memory line)) = line ≡ number
 IsUnreadable now number bytes (orders.Run (run.Read line)) = ⊥
 IsUnreadable now number bytes (orders.Run (run.Write line)) = ⊥
 IsUnreadable now number bytes (orders.NoThread line) = (line ≡ number) × IsOfNobody now bytes
+IsUnreadable now number bytes (orders.Race line) = ⊥
 IsUnreadable now number bytes orders.Memory = ⊥
 
 -- Of these lines, from this number on, the first that can't be read has this fault; or all are read, and none was a `threads` line.

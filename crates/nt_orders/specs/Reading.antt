@@ -31,7 +31,7 @@ use Rattle.nt_orders.specs.declared.laying.Laid as kept_laid
 use Rattle.nt_orders.specs.declared.planning.Planned as kept_planned
 use Rattle.nt_orders.specs.Gates as gates
 use Rattle.nt_orders.specs.Gates.{Does, Item, Laid, Lanes, Planned, Texts}
-use Rattle.nt_orders.specs.Plans.{AsksOf, Gone, IsLaidOut, IsLineThat, IsOfLane, IsOfNobody, IsOfStart, Read, ReadsAll, Stops, creation_of, is_left_out, is_of_nobody, is_of_start, unread}
+use Rattle.nt_orders.specs.Plans.{AsksOf, Gone, IsLaidOut, IsLineThat, IsOfLane, IsOfNobody, IsOfStart, IsRace, Read, ReadsAll, Stops, creation_of, is_left_out, is_of_nobody, is_of_start, unread}
 
 -- a line as it stands
 abbrev pub line_bytes : Line → List ℕ
@@ -120,9 +120,22 @@ pub record IsScriptOf (read : Read) (script : Script) : Type 0 where
   pub is : read.seen.now ≡ Some now
   pub laid : IsLaidOut now.state read.items read.front (lanes_of script) (state script.session.core)
 
--- why there is no script once all lines before this one were read: memory was refused, or there is no `threads` line
+-- why lines are not planned: memory was refused, or this line races
+abbrev pub IsPlanFault : (line : ℕ → Type 0) → OrdersFault → Type 0
+IsPlanFault race orders.Memory = Unit {0}
+IsPlanFault race (orders.Race line) = race line
+IsPlanFault race (orders.NoThread line) = ⊥
+IsPlanFault race (orders.Run fault) = ⊥
+
+-- what was read so has this line as its first that races
+pub record IsRaceOf (read : Read) (line : ℕ) : Type 0 where
+  pub now : Progress
+  pub is : read.seen.now ≡ Some now
+  pub first : IsRace now.state read.items line
+
+-- why there is no script once all lines before this one were read: there is no `threads` line, or they are not planned
 abbrev pub IsLateFault : ℕ → Read → OrdersFault → Type 0
-IsLateFault number read fault = (fault ≡ orders.Memory) ⊎ ((read.seen.now ≡ None) × (fault ≡ orders.Run (run.Script number ThreadsExpected)))
+IsLateFault number read fault = ((read.seen.now ≡ None) × (fault ≡ orders.Run (run.Script number ThreadsExpected))) ⊎ IsPlanFault (IsRaceOf read) fault
 
 -- ---- the lines so far
 

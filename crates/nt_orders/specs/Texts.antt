@@ -55,12 +55,14 @@ hang_text s told stuck held =
 abbrev pub order_reason : OrdersFault → List ℕ
 order_reason (orders.Run fault) = run.reason_of fault
 order_reason (orders.NoThread line) = codes "no such thread"
+order_reason (orders.Race line) = codes "in another order a handle may name another thing"
 order_reason orders.Memory = codes "out of memory"
 
 -- the line of which it is told, if it is told of one
 abbrev pub order_line : OrdersFault → Option ℕ
 order_line (orders.Run fault) = Some (run.line_number fault)
 order_line (orders.NoThread line) = Some line
+order_line (orders.Race line) = Some line
 order_line orders.Memory = None
 
 -- the exit status: 2 if the script is at fault, 1 if memory was refused
@@ -70,6 +72,7 @@ order_status (orders.Run (Read line)) = 1
 order_status (orders.Run (Write line)) = 1
 order_status (orders.Run (Memory line)) = 1
 order_status (orders.NoThread line) = 2
+order_status (orders.Race line) = 2
 order_status orders.Memory = 1
 
 abbrev pub fault_line_text : Option ℕ → List ℕ

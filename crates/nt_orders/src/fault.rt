@@ -15,6 +15,9 @@ pub enum OrdersFault {
     Run(RunFault),
     /// No thread has the number of the line's caller.
     NoThread { line: u64 },
+    /// In another order a handle may name another thing: the line closes one that another thread's line above it duplicates, or gives one whose
+    /// number a line above it names.
+    Race { line: u64 },
     /// Memory was refused to the search, or to the report.
     Memory,
 }
@@ -36,6 +39,7 @@ fn reason_of(fault: OrdersFault) -> &'static str
     match fault {
         OrdersFault::Run(fault) => fault.reason(),
         OrdersFault::NoThread { .. } => "no such thread",
+        OrdersFault::Race { .. } => "in another order a handle may name another thing",
         OrdersFault::Memory => "out of memory",
     }
 }
@@ -46,7 +50,7 @@ fn line_of(fault: OrdersFault) -> Option<u64>
 {
     match fault {
         OrdersFault::Run(fault) => Some(fault.line()),
-        OrdersFault::NoThread { line } => Some(line),
+        OrdersFault::NoThread { line } | OrdersFault::Race { line } => Some(line),
         OrdersFault::Memory => None,
     }
 }
@@ -60,7 +64,7 @@ pub(crate) fn status_of(fault: OrdersFault) -> u8
         OrdersFault::Run(
             RunFault::Read { .. } | RunFault::Write { .. } | RunFault::Memory { .. },
         ) => 1,
-        OrdersFault::NoThread { .. } => 2,
+        OrdersFault::NoThread { .. } | OrdersFault::Race { .. } => 2,
         OrdersFault::Memory => 1,
     }
 }

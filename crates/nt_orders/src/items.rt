@@ -1,16 +1,14 @@
 //! What the lines of a script are, and those that go when their lanes do.
 ghost use Rattle.std.specs.Prelude.{◌≡◌, ◌==◌, IfOk, Some};
 ghost use Rattle.std.specs.List.{list_any};
-ghost use Rattle.nt_calls.specs.declared.call.Call.{Call};
-ghost use Rattle.nt_apart.specs.Fewer.{handles_of};
-ghost use Rattle.nt_lanes.specs.Lanes.{asked, names_handle};
-ghost use Rattle.nt_orders.specs.Gates.{is_handle, names};
+ghost use Rattle.nt_lanes.specs.Lanes.{asked};
+ghost use Rattle.nt_orders.specs.Gates.{closed_by, closes, is_handle, names};
 ghost use Rattle.nt_script.specs.Progress.{progress};
 ghost use Rattle.nt_orders.specs.Plans.{is_among, source_of};
 ghost use Rattle.nt_orders.specs.Reading.{Finds, IsFoundOf, does_of};
 
 use crate::lanes::Line;
-use nt_calls::{Act, Call, WaitCall};
+use nt_calls::{Act, Call};
 use nt_explore::Ask;
 use nt_grammar::{LineFault, ScriptFault, Statement};
 use nt_lines::MAX_LINE;
@@ -54,54 +52,6 @@ pub(crate) fn copy_of(ask: &Ask) -> Result<Ask, AllocError>
     }
 }
 
-/// Whether the act names this handle.
-fn act_names(act: &Act, handle: Handle) -> bool
-    ensures { result ≡ list_any (λ named. named == handle) (handles_of (Call.Act act.now)) }
-{
-    match act {
-        Act::SetEvent(named)
-        | Act::ResetEvent(named)
-        | Act::PulseEvent(named)
-        | Act::ReleaseMutex(named)
-        | Act::CancelTimer(named)
-        | Act::Close(named) => *named == handle,
-        Act::ReleaseSemaphore {
-            semaphore: named,
-            ..
-        } => *named == handle,
-        Act::SetTimer { timer: named, .. } => *named == handle,
-        Act::QueueApc { thread: named, .. } => *named == handle,
-        Act::Duplicate { handle: named, .. } => *named == handle,
-        _ => false,
-    }
-}
-
-/// Whether the wait names this handle.
-fn wait_names(wait: &WaitCall, handle: Handle) -> bool
-    ensures { result ≡ list_any (λ named. named == handle) (handles_of (Call.Wait wait.now)) }
-{
-    match wait {
-        WaitCall::Objects { handles, .. } => handles
-            .as_slice()
-            .iter()
-            .any(|named| *named == handle),
-        WaitCall::Sleep(_) => false,
-        WaitCall::Swap { signal, object, .. } => *signal == handle || *object == handle,
-    }
-}
-
-/// Whether what is asked names this handle.
-fn ask_names(ask: &Ask, handle: Handle) -> bool
-    ensures { result ≡ names_handle handle (asked ask.now) }
-{
-    match ask {
-        Ask::Call(Call::Act(act)) => act_names(act, handle),
-        Ask::Call(Call::Wait(wait)) => wait_names(wait, handle),
-        Ask::Call(Call::Exit) => false,
-        Ask::Tick(_) => false,
-    }
-}
-
 /// Whether the handle is this one.
 pub(crate) fn is_handle(handle: Handle, sought: Option<Handle>) -> bool
     ensures { result ≡ is_handle handle sought }
@@ -112,13 +62,33 @@ pub(crate) fn is_handle(handle: Handle, sought: Option<Handle>) -> bool
     }
 }
 
+/// The handle that is closed so.
+pub(crate) fn closed_by(ask: &Ask) -> Option<Handle>
+    ensures { result ≡ closed_by (asked ask.now) }
+{
+    match ask {
+        Ask::Call(Call::Act(Act::Close(handle))) => Some(*handle),
+        _ => None,
+    }
+}
+
 impl Does {
+    /// Whether the line closes this handle, if it is one.
+    pub(crate) fn closes(&self, sought: Option<Handle>) -> bool
+        ensures { result ≡ closes (does_of self.now) sought }
+    {
+        match (self, sought) {
+            (Does::Asks(ask), Some(handle)) => is_handle(handle, closed_by(ask)),
+            _ => false,
+        }
+    }
+
     /// Whether the line names this handle.
     pub(crate) fn names(&self, handle: Handle) -> bool
         ensures { result ≡ names (does_of self.now) handle }
     {
         match self {
-            Does::Asks(ask) => ask_names(ask, handle),
+            Does::Asks(ask) => ask.names(handle),
             Does::Makes { source, .. } => is_handle(handle, *source),
         }
     }

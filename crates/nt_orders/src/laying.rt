@@ -1,7 +1,7 @@
 //! The lanes as they are laid out, with waits for what stands above.
 ghost use Rattle.std.specs.Prelude.{◌≡◌, ◌++◌, IfOk, OnOk, codes, decimal};
 ghost use Rattle.nt_lanes.specs.Lanes.{asked};
-ghost use Rattle.nt_orders.specs.Gates.{after, after_all, after_beginning, after_if_named, beginning_of, has_passed, is_new, made_line, none_laid, opened_by, wait_for, wait_line, with_line, with_passed};
+ghost use Rattle.nt_orders.specs.Gates.{after, after_all, after_beginning, after_if_named, beginning_of, has_passed, is_new, made_line, may_close_first, none_laid, opened_by, wait_for, wait_line, with_line, with_passed};
 ghost use Rattle.nt_orders.specs.Reading.{does_of, item_of, laid_of};
 ghost use Rattle.std.specs.List.{fold};
 ghost use Rattle.std.specs.Option.{option_copied};
@@ -225,6 +225,13 @@ impl Laid {
     {
         self.begin(alloc, threads, above, item)?;
         self.wait_for_named(alloc, above, item)
+    }
+
+    /// Whether the line closes what the late creation makes another handle of, and may go first.
+    pub(crate) fn may_close_first(&self, item: &Item, made: &Made) -> bool
+        ensures { result ≡ may_close_first (laid_of self.now) (item_of item.now) made.now }
+    {
+        item.does.closes(made.source) && !self.has_passed(item.lane, made.gate)
     }
 
     /// The late creation on this line goes: it sets its gate.

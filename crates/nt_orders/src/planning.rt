@@ -1,10 +1,13 @@
 //! A script's lines are planned, with gates for late creations.
-ghost use Rattle.std.specs.Prelude.{◌≡◌, length, count_by, map, IfOk, OnOk};
+ghost use Rattle.std.specs.Prelude.{◌≡◌, ◌++◌, ◌∷◌, [], count_by, map, false, true, IfErr, IfOk, None, OnOk, Some};
+ghost use Rattle.std.specs.List.{list_any};
 ghost use Rattle.nt_machine.specs.Dispatcher.{state};
-ghost use Rattle.nt_orders.specs.Gates.{Makes, MakesGate, MakesGates, goes_last, is_late, makes, planned_all, planned_on};
-ghost use Rattle.nt_orders.specs.Plans.{IsLaidOut};
-ghost use Rattle.nt_orders.specs.Reading.{does_of, item_of, laid_of, lanes_of, planned_of};
+ghost use Rattle.nt_orders.specs.Gates.{ClosesIf, Makes, MakesGate, gates_of, goes_last, is_late, is_named, is_race, makes, may_close_first, names, none_planned, planned_all, planned_on, race_of, races};
+ghost use Rattle.nt_orders.specs.Plans.{AreGates, IsLaidOut, IsRace};
+ghost use Rattle.nt_orders.specs.Reading.{IsPlanFault, does_of, item_of, laid_of, lanes_of, planned_of};
+ghost use Rattle.nt_orders.specs.declared.fault.OrdersFault.TheVariants.{Memory};
 
+use crate::fault::OrdersFault;
 use crate::items::{Does, Item, copy_of};
 use crate::lanes::{Line, Script};
 use crate::laying::{Laid, Made};
@@ -12,7 +15,7 @@ use nt_calls::{Act, Call};
 use nt_core::Core;
 use nt_grammar::handle_of;
 use nt_script::Session;
-use nt_status::{EventFlags, Handle};
+use nt_status::{EventFlags, Handle, MAX_HANDLES};
 use std::alloc::{AllocError, Global};
 
 /// What is planned so far, and the late creations above.
@@ -33,21 +36,67 @@ fn make_gate(core: &mut Core) -> Result<Handle, AllocError>
     }
 }
 
-/// Makes so many gates.
-#[tactic(auto, using(crate::proofs::Lines::gate_more))]
+/// Whether one of these lines names the handle.
+fn one_names(items: &[Item], handle: Handle) -> bool
+    ensures { result ≡ list_any (λ item. names (does_of item.does) handle) items.now }
+{
+    items.iter().any(|item| item.does.names(handle))
+}
+
+/// The same, as the script's lines are defined.
+#[tactic(auto, using(crate::proofs::Lines::named_if_any))]
+fn is_named(items: &[Item], handle: Handle) -> bool
+    ensures { result ≡ is_named (map item_of items.now) handle }
+{
+    one_names(items, handle)
+}
+
+/// Closes the event.
+fn close(core: &mut Core, event: Handle) -> Result<(), AllocError>
+    ensures { OnOk result (ClosesIf true (state core.old) event (state core.new)) }
+{
+    match core.call(0, &Call::Act(Act::Close(event))) {
+        Ok(_) => Ok(()),
+        Err(_) => Err(AllocError),
+    }
+}
+
+/// Keeps the event as a gate, unless a line names it: then it is closed.
+fn keep_gate(
+    core: &mut Core,
+    gates: &mut Vec<Handle>,
+    items: &[Item],
+    event: Handle,
+) -> Result<(), AllocError>
+    ensures closes { OnOk result (ClosesIf (is_named (map item_of items.now) event) (state core.old) event (state core.new)) }
+    ensures gates { OnOk result (gates.new.items ≡ gates.old.items ++ gates_of (map item_of items.now) (event ∷ [])) }
+{
+    if is_named(items, event) {
+        return close(core, event);
+    }
+    gates.push(event)?;
+    Ok(())
+}
+
+/// Makes a gate for each late creation among these lines.
+#[tactic(auto, using(crate::proofs::Lines::gates_none, crate::proofs::Lines::gates_more))]
 pub(crate) fn make_gates(
     core: &mut Core,
     alloc: Global,
-    count: usize,
+    items: &[Item],
 ) -> Result<Vec<Handle>, AllocError>
-    ensures made { IfOk result (λ gates. MakesGates (state core.old) gates.items (state core.new)) }
-    ensures count { IfOk result (λ gates. length gates.items ≡ count) }
+    ensures { IfOk result (λ gates. AreGates (state core.old) (map item_of items.now) gates.items (state core.new)) }
 {
+    let count = count_late(items);
     let mut gates = Vec::new(alloc);
-    for _ in 0..count {
-        gates.push(make_gate(core)?)?;
+    for _ in 0..MAX_HANDLES {
+        if gates.len() == count {
+            return Ok(gates);
+        }
+        let event = make_gate(core)?;
+        keep_gate(core, &mut gates, items, event)?;
     }
-    Ok(gates)
+    Err(AllocError)
 }
 
 /// Whether the line makes something.
@@ -118,18 +167,79 @@ impl Planned {
         }
     }
 
-    /// The line is planned: it waits for what it has to, and goes.
+    /// Whether the line closes a handle that a late creation above it duplicates, and may go first.
+    fn may_close_first(&self, item: &Item) -> bool
+        ensures { result ≡ list_any (may_close_first (laid_of self.now.laid) (item_of item.now)) self.now.above.items }
+    {
+        self.above
+            .iter()
+            .any(|made| self.laid.may_close_first(item, made))
+    }
+
+    /// Whether a handle may name another thing in another order, for this line.
+    fn is_race(&self, item: &Item) -> bool
+        ensures { result ≡ is_race self.now.above.items (laid_of self.now.laid) (item_of item.now) (does_of item.now.does) }
+    {
+        match item.does {
+            Does::Asks(_) => self.may_close_first(item),
+            Does::Makes { handle, .. } => self.laid.plan.names(handle),
+        }
+    }
+
+    /// The line goes once it waited for what it has to; or it is a race, and that is answered.
+    fn follow(
+        &mut self,
+        alloc: Global,
+        threads: u32,
+        gates: &[Handle],
+        item: &Item,
+    ) -> Result<bool, AllocError>
+        ensures race { IfOk result (λ race. race ≡ races threads (planned_of self.old) (item_of item.now)) }
+        ensures planned { IfOk result (λ race. race ≡ false
+            → planned_of self.new ≡ planned_on threads gates.now (planned_of self.old) (item_of item.now)) }
+    {
+        self.laid.wait_for_all(alloc, threads, &self.above, item)?;
+        if self.is_race(item) {
+            return Ok(true);
+        }
+        self.go(alloc, gates, item)?;
+        Ok(false)
+    }
+
+    /// The line is planned, unless it is a race.
     fn add(
         &mut self,
         alloc: Global,
         threads: u32,
         gates: &[Handle],
         item: &Item,
-    ) -> Result<(), AllocError>
-        ensures { OnOk result (planned_of self.new ≡ planned_on threads gates.now (planned_of self.old) (item_of item.now)) }
+    ) -> Result<(), OrdersFault>
+        ensures apart { OnOk result (races threads (planned_of self.old) (item_of item.now) ≡ false) }
+        ensures planned { OnOk result (planned_of self.new ≡ planned_on threads gates.now (planned_of self.old) (item_of item.now)) }
+        ensures fault { IfErr result (IsPlanFault (λ line. (line ≡ item.now.line.number)
+            × (races threads (planned_of self.old) (item_of item.now) ≡ true))) }
     {
-        self.laid.wait_for_all(alloc, threads, &self.above, item)?;
-        self.go(alloc, gates, item)
+        match self.follow(alloc, threads, gates, item) {
+            Ok(false) => Ok(()),
+            Ok(true) => Err(OrdersFault::Race {
+                line: item.line.number,
+            }),
+            Err(_) => Err(OrdersFault::Memory),
+        }
+    }
+}
+
+/// Nothing is planned yet.
+fn none_planned(alloc: Global, threads: u32) -> Result<Planned, OrdersFault>
+    ensures planned { IfOk result (λ planned. planned_of planned ≡ none_planned threads) }
+    ensures fault { IfErr result (λ fault. fault ≡ Memory) }
+{
+    match Laid::new(alloc, threads) {
+        Ok(laid) => Ok(Planned {
+            laid,
+            above: Vec::new(alloc),
+        }),
+        Err(_) => Err(OrdersFault::Memory),
     }
 }
 
@@ -139,15 +249,17 @@ pub(crate) fn plan_all(
     threads: u32,
     gates: &[Handle],
     items: &[Item],
-) -> Result<Planned, AllocError>
-    ensures { IfOk result (λ planned. planned_of planned ≡ planned_all threads gates.now (map item_of items.now)) }
+) -> Result<Planned, OrdersFault>
+    ensures planned { IfOk result (λ planned. planned_of planned ≡ planned_all threads gates.now (map item_of items.now)) }
+    ensures apart { IfOk result (λ planned. race_of threads gates.now (map item_of items.now) ≡ None) }
+    ensures fault { IfErr result (IsPlanFault (λ line. race_of threads gates.now (map item_of items.now) ≡ Some line)) }
 {
-    let mut planned = Planned {
-        laid: Laid::new(alloc, threads)?,
-        above: Vec::new(alloc),
-    };
+    let mut planned = none_planned(alloc, threads)?;
     for item in items {
-        planned.add(alloc, threads, gates, item)?;
+        match planned.add(alloc, threads, gates, item) {
+            Ok(()) => {}
+            Err(fault) => return Err(fault),
+        }
     }
     Ok(planned)
 }
@@ -162,6 +274,24 @@ fn core_of(session: &Session) -> Result<Core, AllocError>
     }
 }
 
+/// The session's dispatcher once a gate is made for each late creation among these lines, and the gates.
+fn with_gates(
+    alloc: Global,
+    session: &Session,
+    items: &[Item],
+) -> Result<(Core, Vec<Handle>), OrdersFault>
+    ensures made { IfOk result (λ made. AreGates (state session.now.core) (map item_of items.now) made.1.items (state made.0)) }
+    ensures fault { IfErr result (λ fault. fault ≡ Memory) }
+{
+    let Ok(mut core) = core_of(session) else {
+        return Err(OrdersFault::Memory);
+    };
+    match make_gates(&mut core, alloc, items) {
+        Ok(gates) => Ok((core, gates)),
+        Err(_) => Err(OrdersFault::Memory),
+    }
+}
+
 /// The script of these lines, laid out, with a gate for each late creation.
 pub(crate) fn lay_out(
     alloc: Global,
@@ -169,22 +299,26 @@ pub(crate) fn lay_out(
     objects: Vec<u32>,
     front: Vec<u8>,
     items: &[Item],
-) -> Result<Script, AllocError>
-    ensures { IfOk result (λ script. IsLaidOut (state session.core) (map item_of items.now) front.items
+) -> Result<Script, OrdersFault>
+    ensures script { IfOk result (λ script. IsLaidOut (state session.core) (map item_of items.now) front.items
         (lanes_of script) (state script.session.core)) }
+    ensures fault { IfErr result (IsPlanFault (IsRace (state session.core) (map item_of items.now))) }
 {
     let mut session = session;
-    let mut core = core_of(&session)?;
-    let gates = make_gates(&mut core, alloc, count_late(items))?;
-    let Planned { laid, above } = plan_all(alloc, session.core().threads(), &gates, items)?;
-    let Laid { plan, lines, .. } = laid;
-    let _before = session.replace_core(core);
-    Ok(Script {
-        session,
-        objects,
-        plan,
-        lines,
-        front,
-        above,
-    })
+    let (core, gates) = with_gates(alloc, &session, items)?;
+    match plan_all(alloc, session.core().threads(), &gates, items) {
+        Ok(Planned { laid, above }) => {
+            let Laid { plan, lines, .. } = laid;
+            let _before = session.replace_core(core);
+            Ok(Script {
+                session,
+                objects,
+                plan,
+                lines,
+                front,
+                above,
+            })
+        }
+        Err(fault) => Err(fault),
+    }
 }

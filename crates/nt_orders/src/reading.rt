@@ -9,14 +9,14 @@ ghost use Rattle.nt_hangs.specs.Watching.{Sees, names_of, seen_of};
 ghost use Rattle.nt_grammar.specs.Scope.{handle_in};
 ghost use Rattle.nt_lanes.specs.Lanes.{asked};
 ghost use Rattle.nt_orders.specs.Ending.{IsFirstFault};
-ghost use Rattle.nt_orders.specs.Plans.{IsPlanOf, Reads, ReadsAll, Stops, closed_by, given, is_open, made_on, unread, whole_line, with_closed, with_made};
+ghost use Rattle.nt_orders.specs.Gates.{closed_by};
+ghost use Rattle.nt_orders.specs.Plans.{IsPlanOf, Reads, ReadsAll, Stops, given, is_open, made_on, unread, whole_line, with_closed, with_made};
 ghost use Rattle.nt_orders.specs.Reading.{Finds, IsLaneFault, IsLast, IsLateFault, IsScriptOf, at_line, item_of, lanes_of, read_of};
 
 use crate::fault::{OrdersFault, fault_at};
-use crate::items::{Creation, Does, Found, Item, LaneFault, find_in};
+use crate::items::{Creation, Does, Found, Item, LaneFault, closed_by, find_in};
 use crate::lanes::{Script, line_of, put_whole};
 use crate::planning::lay_out;
-use nt_calls::{Act, Call};
 use nt_explore::Ask;
 use nt_grammar::{LineFault, ScriptFault};
 use nt_hangs::Watch;
@@ -45,16 +45,6 @@ fn orders_fault_at(line: u64, fault: LaneFault) -> OrdersFault
     match fault {
         LaneFault::Line(fault) => OrdersFault::Run(fault_at(line, fault)),
         LaneFault::NoThread => OrdersFault::NoThread { line },
-    }
-}
-
-/// The handle that is closed so.
-fn closed_by(ask: &Ask) -> Option<Handle>
-    ensures { result ≡ closed_by (asked ask.now) }
-{
-    match ask {
-        Ask::Call(Call::Act(Act::Close(handle))) => Some(*handle),
-        _ => None,
     }
 }
 
@@ -327,10 +317,7 @@ fn finish(alloc: Global, reading: Reading, count: u64) -> Result<Script, OrdersF
     } = reading;
     let (session, objects) = watch.into_parts();
     match session {
-        Some(session) => match lay_out(alloc, session, objects, front, &items) {
-            Ok(script) => Ok(script),
-            Err(_) => Err(OrdersFault::Memory),
-        },
+        Some(session) => lay_out(alloc, session, objects, front, &items),
         None => Err(OrdersFault::Run(RunFault::Script {
             line: count + 1,
             fault: ScriptFault::ThreadsExpected,
