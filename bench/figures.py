@@ -31,16 +31,16 @@ def at_once(work, items):
         yield from pool.map(work, items)
 
 
-def own_of(words, **how):
-    """How many instructions each function runs itself in that thread of a program which runs most, by valgrind."""
+def own_of(words, whole=False, **how):
+    """How many instructions each function runs itself in that thread of a program which runs most, or in the whole program, by valgrind."""
     with tempfile.TemporaryDirectory() as folder:
-        counting = ["valgrind", "--tool=callgrind", "--separate-threads=yes", f"--callgrind-out-file={folder}/counted", *words]
+        counting = ["valgrind", "--tool=callgrind", f"--separate-threads={'no' if whole else 'yes'}", f"--callgrind-out-file={folder}/it", *words]
         subprocess.run(counting, stdout=subprocess.DEVNULL, stderr=subprocess.DEVNULL, check=True, **how)
-        return max((own_in(path) for path in glob.glob(f"{folder}/counted-*")), key=lambda it: sum(it.values()))
+        return max((own_in(path) for path in glob.glob(f"{folder}/it*")), key=lambda it: sum(it.values()))
 
 
 def own_in(path):
-    """What callgrind wrote there of a thread: how many instructions each function runs itself."""
+    """What callgrind wrote there, of a thread or of all: how many instructions each function runs itself."""
     with open(path, encoding="ascii", errors="replace") as file:
         lines = file.read().splitlines()
     names, own, function, is_callee = {}, collections.Counter(), None, False
