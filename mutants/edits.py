@@ -1,6 +1,7 @@
-"""The mutants of mutants/CRATE.edits and of mutants/private/CRATE.edits, and the rounds that they stand in.
+"""The mutants of mutants/CRATE.edits, and the rounds that they stand in.
 
-A block is the line `# NAME`, and then lines `file:`, `old:` and `new:` as `rt help` tells the form of a must-fail edit; an empty line ends it.
+A block is the line `# NAME`, or `# private NAME`, and then lines `file:`, `old:` and `new:` as `rt help` tells the form of a must-fail edit; an empty
+line ends it.
 """
 import os
 import re
@@ -8,13 +9,14 @@ import re
 from crates import PARTS, crates_of, text_of
 from sources import cites, definitions_of, function_at, words_of_head
 
-# A block: its name, and its files, each with the texts that it replaces; and what these have.
-BLOCK = re.compile(r"# (\S+)\n((?:file: .+\n(?:old: .+\nnew:.*\n)*)*)")
+# A block: whether it is private, its name, and its files, each with the texts that it replaces; and what these have.
+BLOCK = re.compile(r"# (private )?(\S+)\n((?:file: .+\n(?:old: .+\nnew:.*\n)*)*)")
 PART = re.compile(r"file: (.+)\n|old: (.+)\nnew: ?(.*)\n")
 
 
 def blocks_of(text):
-    """Yields each block: the number of its first line, its name, and the (file, old, new) that it replaces; or the line at which it is malformed."""
+    """Yields each block: the number of its first line, its name, the (file, old, new) that it replaces, and whether it is private; or the line at which
+    it is malformed, and why."""
     for block in re.finditer(r"(?:.+\n)+", f"{text}\n"):
         line, found, file, pairs = text.count("\n", 0, block.start()) + 1, BLOCK.match(block[0]), "", []
         end = found.end() if found else 0
@@ -22,9 +24,9 @@ def blocks_of(text):
             file = path or file
             pairs += [] if path else [(file, old, new)]
         if pairs and end == len(block[0]):
-            yield line, found[1], pairs
+            yield line, found[2], pairs, bool(found[1])
         else:
-            yield line + block[0].count("\n", 0, end), "a block is `# NAME`, and then `file:` and pairs of `old:` and `new:`", None
+            yield line + block[0].count("\n", 0, end), "a block is `# NAME`, and then `file:` and pairs of `old:` and `new:`", None, False
 
 
 def texts_of_edit(crate, pairs):
@@ -106,32 +108,25 @@ def texts_of(crate, edits):
     return {path: "\n".join(text) for path, text in texts.items()}
 
 
-def files_of(top, name):
-    """The files of a crate's mutants: those of public functions and of laws, and the others."""
-    return f"{top}/mutants/{name}.edits", f"{top}/mutants/private/{name}.edits"
-
-
 def edits_of(top, crate, parts=()):
     """The mutants of a crate whose names have one of these parts, or all; and what is wrong with those that cannot be applied."""
     found, bad, places = [], [], {}
-    for path in files_of(top, crate.name):
-        shown = os.path.relpath(path, top)
-        for line, name, pairs in blocks_of(text_of(path)):
-            edit = Edit(crate, name, pairs, "/private/" in shown) if pairs else None
-            why = name if not edit else f"{name} stands at {places[name]} too" if name in places else edit.bad and f"{name}: {edit.bad}"
-            places.setdefault(name, f"{shown}:{line}")
-            if why:
-                bad.append(f"{shown}:{line}: BAD EDIT: {why}")
-            elif not parts or any(it in name for it in parts):
-                found.append(edit)
+    shown = f"mutants/{crate.name}.edits"
+    for line, name, pairs, is_private in blocks_of(text_of(f"{top}/{shown}")):
+        edit = Edit(crate, name, pairs, is_private) if pairs else None
+        why = name if not edit else f"{name} stands at {places[name]} too" if name in places else edit.bad and f"{name}: {edit.bad}"
+        places.setdefault(name, f"{shown}:{line}")
+        if why:
+            bad.append(f"{shown}:{line}: BAD EDIT: {why}")
+        elif not parts or any(it in name for it in parts):
+            found.append(edit)
     return found, bad
 
 
 def edits_in(top, name=None, parts=()):
     """The mutants by crate, of the crate `name` alone where it is given, and what is wrong with those that cannot be applied."""
     crates, found, bad = crates_of(top), {}, []
-    files = [*os.listdir(f"{top}/mutants"), *os.listdir(f"{top}/mutants/private")]
-    for it in sorted({it.removesuffix(".edits") for it in files if it.endswith(".edits")}):
+    for it in sorted(it.removesuffix(".edits") for it in os.listdir(f"{top}/mutants") if it.endswith(".edits")):
         if it not in crates:
             bad.append(f"mutants/{it}.edits: BAD EDIT: there is no crate {it}")
         elif name in (None, it):

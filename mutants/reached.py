@@ -71,5 +71,5 @@ def listed(top, found, parts):
     for crate in (it for it in crates_of(top).values() if name in ("", it.name)):
         for it, mutants in mutants_by_function(crate, edits.get(crate.name, [])).items():
             if part in it.path and (mutants or is_public(crate, it)):
-                names = [f"{'private/' * edit.is_private}{edit.name.partition('/')[2]}" for edit in mutants]
+                names = [f"{'private ' * edit.is_private}{edit.name.partition('/')[2]}" for edit in mutants]
                 yield f"crates/{crate.name}/{it.head[0]}:{it.head[1]}: {it.path.partition('::')[2]}: {' '.join(names) or 'none'}"

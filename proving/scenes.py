@@ -61,8 +61,8 @@ FILES = {
     "crates/rows/src/lib.rt": "#[cfg(test)]\nmod tests;\n",
     "crates/rows/src/tests.rt": "#[test]\nfn one() {}\n",
     "crates/rows/src/test": f"{PROVED[:-1]} tests=1\n",
-    "mutants/low.edits": "# gives_another\nfile: src/lib.rt\nold:     1\nnew:     wrong\n",
-    "mutants/private/low.edits": "# gives_more\nfile: src/lib.rt\nold:     2\nnew:     wrong\n",
+    "mutants/low.edits": "# gives_another\nfile: src/lib.rt\nold:     1\nnew:     wrong\n\n"
+    "# private gives_more\nfile: src/lib.rt\nold:     2\nnew:     wrong\n",
 }
 # What a check may end with and say, none of which shows that a crate is proved.
 NOT_PROVED = [(0, ""), (0, "logic=not-proved functions=1"), (1, PROVED), (-9, PROVED), (0, f"warning: no call of `low::one` can be made\n{PROVED}")]
