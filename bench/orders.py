@@ -75,19 +75,20 @@ class Names:
 
 
 class Race(ValueError):
-    """The number of the first line after which a handle may name another thing in another order."""
+    """The number of the first line whose handle names another thing in another order."""
 
 
 class Late:
-    """A creation after a call or a tick: its line and thread, the handle that it gave, that of which it is another one, and its gate."""
+    """A creation after a call or a tick: its line and thread, the handle that it gave, that of which it is another one, its gate and its key."""
 
     def __init__(self, number, who, handle, source):
-        self.number, self.who, self.handle, self.source, self.gate = number, who, handle, source, None
+        self.number, self.who, self.handle, self.source, self.gate, self.key = number, who, handle, source, None, None
 
 
 class Script:
     """The machine after all creations, wherever they stand, and the lines of each lane: those of the threads, and last the ticks. Each has its number,
-    what is shown of it, and what is carried out. A late creation sets an event, its gate, and what has to come after it waits for that."""
+    what is shown of it, and what is carried out. A late creation sets an event, its gate, and what has to come after it waits for that. With that it
+    waits for an event that is set, its key, which nobody can set again: what closes its source takes that first, so the creation is never done then."""
 
     def __init__(self, text):
         (_, opening), *lines = lines_of(text)
@@ -97,15 +98,32 @@ class Script:
         self.lanes, self.passed = [[] for _ in range(self.threads + 1)], set()
         read = self.read(lines)
         named = {handle for _, line, late in read if not late for handle in self.named_by(line)}
-        for late in (it for _, _, it in read if it):
-            while (gate := int(self.start.call(0, "event", True, False)[0].split()[1])) in named:
-                self.start.call(0, "close", gate)
-            late.gate = gate
+        self.late = [it for _, _, it in read if it]
+        for late in self.late:
+            late.gate = self.unnamed(named, lambda: self.given("event", True, False))
             self.called[f"object {self.start.handles[late.gate][0]}"] = f"(line {late.number} of t{late.who})"
+        for late in self.late:
+            late.key = self.unnamed(named, self.key)
         for at, (number, line, late) in enumerate(read):
             if late and any(late.handle in self.named_by(other) for _, other, it in read[:at] if not it):
                 raise Race(number)
             self.lay(number, line, late, [it for _, _, it in read[:at] if it])
+
+    def given(self, *call):
+        """The handle that a call of the first thread gives."""
+        return int(self.start.call(0, *call)[0].split()[1])
+
+    def unnamed(self, named, make):
+        """A handle of what is made so that no line names."""
+        while (made := make()) in named:
+            self.start.call(0, "close", made)
+        return made
+
+    def key(self):
+        event = self.given("event", False, True)
+        made = self.given("dup", event, 1048576)
+        self.start.call(0, "close", event)
+        return made
 
     def named_by(self, line):
         """The handles that a call names."""
@@ -114,16 +132,17 @@ class Script:
 
     def read(self, lines):
         """Carries out the creations. Answers the other lines, and among them the creations that are late."""
-        found, closed = [], set()
+        found, closed, exited = [], set(), set()
         for number, line in lines:
             first, keyword, *words = line.split()
             if first == "tick" or keyword not in CREATES:
                 found.append((number, line, None))
                 handle = self.names.handle(words[0]) if keyword == "close" else None
                 closed |= {handle} if handle is not None and handle < len(self.start.handles) and self.start.handles[handle] else set()
+                exited |= {first} if keyword == "exit" else set()
                 continue
             source = self.names.handle(words[1]) if keyword == "dup" else None
-            if source in closed:
+            if source in closed or first in exited:
                 continue
             answer = self.names.carry_out(self.start, line)[0]
             if found and answer.startswith("handle"):
@@ -131,7 +150,7 @@ class Script:
         return found
 
     def lay(self, number, line, late, above):
-        """Puts the line last in its lane, after waits for the late creations above that it needs."""
+        """Puts the line last in its lane, after waits for the late creations above that it needs, and what it does to those whose source it closes."""
         first, *rest = line.split()
         lane = self.threads if first == "tick" else int(first[1:])
         begins = [it for it in above if first != "tick" and not self.lanes[lane] and it.source == lane]
@@ -140,9 +159,10 @@ class Script:
             if (lane, it.gate) not in self.passed:
                 self.lanes[lane].append((number, f"t{lane} waits for line {it.number}", f"t{lane} any inf plain {it.gate}"))
                 self.passed.add((lane, it.gate))
-        if rest[:1] == ["close"] and any(it.source in named and (lane, it.gate) not in self.passed for it in above):
-            raise Race(number)
-        self.lanes[lane].append((number, line, f"t{lane} set {late.gate}" if late else line))
+        for it in above if rest[:1] == ["close"] else []:
+            if it.source in named and (lane, it.gate) not in self.passed:
+                self.lanes[lane].append((number, f"t{lane} closes the source of line {it.number}", f"t{lane} any 0 plain {it.key}"))
+        self.lanes[lane].append((number, line, f"t{lane} swap {late.gate} {late.key} inf plain" if late else line))
         self.passed |= {(lane, late.gate)} if late else set()
 
     def titled(self, word):
@@ -252,6 +272,11 @@ class Point:
             lanes, here = [here.lane, *lanes], here.before
         return lanes
 
+    def steps(self):
+        """The same, each with which of its lines that is."""
+        lanes = self.order()
+        return [(lane, lanes[:at].count(lane)) for at, lane in enumerate(lanes)]
+
 
 class Found:
     """The points of a script, level by level; which hang, and where a wait is lost. Of threads that stand alike only the lowest goes, or each
@@ -268,6 +293,15 @@ class Found:
                 self.go(here, lane, met)
         self.hanging = [it for it in self.points if hangs(it.machine, self.callers(it))]
         self.find_losses()
+        self.races = [race for race in map(self.race_before, self.hanging[:1]) if race]
+
+    def race_before(self, point):
+        """The number of the first late creation on the way to the point whose source may be closed before."""
+        gone = [self.script.lanes[lane][at] for lane, at in point.steps()]
+        taken = {key: at for at, (*_, done) in reversed([*enumerate(gone)]) for key in done.partition(" any 0 plain ")[2].split()}
+        keys = {f"swap {it.gate} {it.key} inf plain": (it.number, str(it.key)) for it in self.script.late}
+        steps = [(at, *keys[words]) for at, (*_, done) in enumerate(gone) if (words := done.partition(" ")[2]) in keys]
+        return next((number for at, number, key in steps if taken.get(key, at) < at), None)
 
     def callers(self, point):
         more = {lane for lane in range(self.script.threads) if point.at[lane] < len(self.script.lanes[lane])}
@@ -325,6 +359,7 @@ class Found:
         for lane in point.order():
             number, line, done = self.script.lanes[lane][at[lane]]
             answer, grants = self.script.names.carry_out(machine, done)
+            answer = answer if done == line or answer == "pending" or " waits for " in line else "ok"
             at[lane] += 1
             ends = "".join(f"; t{who}'s wait ends: {status_name(status)}" for who, status in grants)
             rows.append((str(number), line, answer_name(answer) + ends))

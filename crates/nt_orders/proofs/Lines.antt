@@ -1,13 +1,13 @@
 -- Lines as they are read, each in its lane.
 use Rattle.std.proofs.Common.{◌≡◌, ℕ, zero, suc, ◌<◌, Bool, true, false, not, ◌||◌, List, [], ◌∷◌, ◌++◌, length, map, drop, take, set, get_or, sym, ap, subst, ◌∙◌, ◌+◌, ◌≤◌, Option, None, Some, refl, arith, inl, inr}
-use Rattle.std.specs.Prelude.{Vec, Result, Ok, Err, IfOk, IfErr, if◌then◌else◌, slice_get}
+use Rattle.std.specs.Prelude.{Vec, Result, Ok, Err, IfOk, IfErr, count_by, if◌then◌else◌, slice_get}
 use Rattle.std.specs.declared.alloc.Global.{Global}
 use Rattle.std.proofs.lemmas.List.{map-set, map-append, get_or-map}
 use Rattle.std.proofs.lemmas.List.Elements.{filter-append}
 use Rattle.std.specs.List.{fold, list_any}
 use Rattle.nt_orders.specs.declared.lanes.Line.{Line}
-use Rattle.nt_orders.specs.Gates.{ClosesIf, Item, MakesEvents, MakesGate, MakesGates, Planned, first_race, gates_of, is_named, lanes_with, names, planned_all, planned_on, race_of, races, with_text}
-use Rattle.nt_orders.specs.Plans.{AreGates, Gone, IsLaidOut, IsPlanOf, IsRace, IsUnreadable, Read, Reads, ReadsAll, Stops, unread}
+use Rattle.nt_orders.specs.Gates.{ClosesIf, Gate, Gates, Item, Key, Kind, MakesEvents, MakesOne, MakesUnnamed, Planned, first_race, is_late, is_named, lanes_with, names, planned_all, planned_on, race_of, races, unnamed_of, with_text}
+use Rattle.nt_orders.specs.Plans.{AreGates, IsLaidOut, IsPlanOf, IsRace, IsUnreadable, Read, Reads, ReadsAll, Stops, unread}
 use Rattle.nt_orders.specs.Reading.{line_bytes, texts_of, IsLaneFault, IsLateFault, IsPlanFault, IsRaceOf, IsScriptOf, ReadSoFar, at_line, does_of, item_of, lanes_of}
 use Rattle.nt_status.specs.declared.limits.TheConstants.{MAX_THREADS}
 use Rattle.nt_calls.specs.State.{State}
@@ -22,13 +22,6 @@ use Rattle.nt_orders.specs.Ending.{IsFirstFault}
 use Rattle.nt_grammar.specs.declared.fault.LineFault.TheVariants as line
 use Rattle.nt_orders.specs.declared.items.LaneFault.TheVariants as lane
 use Rattle.nt_orders.specs.declared.fault.OrdersFault.TheVariants as orders
-
-abbrev pub gone_with : List ℕ → List ℕ → Gone
-gone_with text at = record { text = text; at = at }
-
--- how far an order was gone is the same where its parts are
-pub same_gone : (text text' at at' : List ℕ) → text ≡ text' → at ≡ at' → gone_with text at ≡ gone_with text' at'
-same_gone text text' at at' t a = ap (λ (x : List ℕ). gone_with x at) t ∙ ap (λ (x : List ℕ). gone_with text' x) a
 
 -- ---- lines in their lanes
 
@@ -107,11 +100,11 @@ all_read input (byte ∷ rest) count now s none = absurd (omega (arith, none))
 -- ---- the script
 
 -- an event more is made
-event_more : (items : List Item) (old mid next new : State) (events : List ℕ) (event : ℕ) → MakesEvents items old events mid → MakesGate mid event next
-    → ClosesIf (is_named items event) next event new → MakesEvents items old (events ++ event ∷ []) new
-event_more items old mid next new [] event same made closes = (next, new, subst (λ (s : State). MakesGate s event next) same made, closes, refl)
-event_more items old mid next new (first ∷ events) event (one, two, makes, closed, rest) made closes =
-    (one, two, makes, closed, event_more items two mid next new events event rest made closes)
+event_more : (kind : Kind) (items : List Item) (old mid next new : State) (events : List ℕ) (event : ℕ) → MakesEvents kind items old events mid → MakesOne kind mid event next
+    → ClosesIf (is_named items event) next event new → MakesEvents kind items old (events ++ event ∷ []) new
+event_more kind items old mid next new [] event same made closes = (next, new, subst (λ (s : State). MakesOne kind s event next) same made, closes, refl)
+event_more kind items old mid next new (first ∷ events) event (one, two, makes, closed, rest) made closes =
+    (one, two, makes, closed, event_more kind items two mid next new events event rest made closes)
 
 -- whether one of the lines names the handle
 any_item : (handle : ℕ) (items : List kept.Item) → list_any (λ (item : kept.Item). names (does_of item.does) handle) items ≡ is_named (map item_of items) handle
@@ -123,21 +116,27 @@ pub named_if_any : (handle : ℕ) (items : List kept.Item) (any : Bool) → any 
 named_if_any handle items any is = is ∙ any_item handle items
 
 -- none is made yet
-pub gates_none : (items : List Item) (s : State) → MakesGates items s [] s
-gates_none items s = record { events = []; made = refl; are = refl }
+pub unnamed_none : (kind : Kind) (items : List Item) (s : State) → MakesUnnamed kind items s [] s
+unnamed_none kind items s = record { events = []; made = refl; are = refl }
 
-pub gates_more : (items : List Item) (old mid next new : State) (gates later : List ℕ) (event : ℕ) → MakesGates items old gates mid → MakesGate mid event next
-    → ClosesIf (is_named items event) next event new → later ≡ gates ++ gates_of items (event ∷ []) → MakesGates items old later new
-gates_more items old mid next new gates later event so made closes is = record {
+pub unnamed_more : (kind : Kind) (items : List Item) (old mid next new : State) (gates later : List ℕ) (event : ℕ) → MakesUnnamed kind items old gates mid → MakesOne kind mid event next
+    → ClosesIf (is_named items event) next event new → later ≡ gates ++ unnamed_of items (event ∷ []) → MakesUnnamed kind items old later new
+unnamed_more kind items old mid next new gates later event so made closes is = record {
   events = so.events ++ event ∷ [];
-  made = event_more items old mid next new so.events event so.made made closes;
-  are = is ∙ (ap (λ (l : List ℕ). l ++ gates_of items (event ∷ [])) so.are ∙ sym (filter-append (λ (event : ℕ). not (is_named items event)) so.events (event ∷ [])));
+  made = event_more kind items old mid next new so.events event so.made made closes;
+  are = is ∙ (ap (λ (l : List ℕ). l ++ unnamed_of items (event ∷ [])) so.are ∙ sym (filter-append (λ (event : ℕ). not (is_named items event)) so.events (event ∷ [])));
 }
+
+-- gates and keys are made
+pub are_gates : (start mid s : State) (items : List Item) (gates keys : List ℕ) (count : ℕ) → count ≡ count_by is_late items → MakesUnnamed Gate items start gates mid
+    → length gates ≡ count → MakesUnnamed Key items mid keys s → length keys ≡ count → AreGates start items (record { gates = gates; keys = keys }) s
+are_gates start mid s items gates keys count all gated each keyed both =
+    record { mid = mid; gated = gated; keyed = keyed; each = each ∙ all; both = both ∙ all }
 
 -- ---- races
 
 -- whether this line is a race, or a later one
-pub race_on : (threads : ℕ) (gates : List ℕ) (old : Planned) (items : List Item) (i : ℕ) (item : Item) → slice_get items i ≡ Some item
+pub race_on : (threads : ℕ) (gates : Gates) (old : Planned) (items : List Item) (i : ℕ) (item : Item) → slice_get items i ≡ Some item
     → first_race threads gates old (drop i items) ≡ (if races threads old item then Some item.number else first_race threads gates (planned_on threads gates old item) (drop (i + 1) items))
 race_on threads gates old [] i item is = let no : None ≡ Some item = is in (cc)
 race_on threads gates old (x ∷ items) zero item is =
@@ -149,7 +148,7 @@ race_on threads gates old (x ∷ items) (suc i) item is =
     ∙ ap (λ (k : ℕ). if races threads old item then Some item.number else first_race threads gates (planned_on threads gates old item) (drop k (x ∷ items))) (sym more)
 
 -- this line is none
-pub no_race_here : (threads : ℕ) (gates : List ℕ) (old new : Planned) (items : List Item) (i : ℕ) (item : Item) (first : Option ℕ) → slice_get items i ≡ Some item
+pub no_race_here : (threads : ℕ) (gates : Gates) (old new : Planned) (items : List Item) (i : ℕ) (item : Item) (first : Option ℕ) → slice_get items i ≡ Some item
     → races threads old item ≡ false → new ≡ planned_on threads gates old item → first ≡ first_race threads gates old (drop i items)
     → first ≡ first_race threads gates new (drop (i + 1) items)
 no_race_here threads gates old new items i item first is none on so =
@@ -158,14 +157,14 @@ no_race_here threads gates old new items i item first is none on so =
     ∙ ap (λ (p : Planned). first_race threads gates p (drop (i + 1) items)) (sym on)))
 
 -- this line is one
-race_here : (threads : ℕ) (gates : List ℕ) (old : Planned) (items : List Item) (i : ℕ) (item : Item) (first : Option ℕ) → slice_get items i ≡ Some item
+race_here : (threads : ℕ) (gates : Gates) (old : Planned) (items : List Item) (i : ℕ) (item : Item) (first : Option ℕ) → slice_get items i ≡ Some item
     → first ≡ first_race threads gates old (drop i items) → races threads old item ≡ true → first ≡ Some item.number
 race_here threads gates old items i item first is so race =
     so ∙ (race_on threads gates old items i item is
     ∙ ap (λ (b : Bool). if b then Some item.number else first_race threads gates (planned_on threads gates old item) (drop (i + 1) items)) race)
 
 -- the same of the fault that this line has
-pub race_fault : (threads : ℕ) (gates : List ℕ) (old : Planned) (items : List Item) (i : ℕ) (item : Item) (first : Option ℕ) (fault : OrdersFault) → slice_get items i ≡ Some item
+pub race_fault : (threads : ℕ) (gates : Gates) (old : Planned) (items : List Item) (i : ℕ) (item : Item) (first : Option ℕ) (fault : OrdersFault) → slice_get items i ≡ Some item
     → first ≡ first_race threads gates old (drop i items) → IsPlanFault (λ line. (line ≡ item.number) × (races threads old item ≡ true)) fault
     → IsPlanFault (λ line. first ≡ Some line) fault
 race_fault threads gates old items i item first (orders.Race line) is so (same, race) =
@@ -192,17 +191,17 @@ item_there (x ∷ items) (suc i) item below is = item_there items i item (omega 
 -- ---- lanes
 
 -- the lanes of lines whose gates were made
-pub laid_out : (start : State) (items : List Item) (front gates : List ℕ) (s : State) (threads : ℕ) (all : Planned) → AreGates start items gates s
-    → threads ≡ start.threads → race_of threads gates items ≡ None → all ≡ planned_all threads gates items → IsLaidOut start items front (lanes_with all.laid front) s
+pub laid_out : (start : State) (items : List Item) (front : List ℕ) (gates : Gates) (s : State) (threads : ℕ) (all : Planned) → AreGates start items gates s
+    → threads ≡ start.threads → race_of threads gates items ≡ None → all ≡ planned_all threads gates items → IsLaidOut start items front (lanes_with all front) s
 laid_out start items front gates s threads all made same apart is = record {
   gates = gates;
   made = made;
   apart = ap (λ (n : ℕ). race_of n gates items) (sym same) ∙ apart;
-  planned = ap (λ (p : Planned). lanes_with p.laid front) (is ∙ ap (λ (n : ℕ). planned_all n gates items) same);
+  planned = ap (λ (p : Planned). lanes_with p front) (is ∙ ap (λ (n : ℕ). planned_all n gates items) same);
 }
 
 -- why these lines are not planned
-pub not_laid_out : (start : State) (items : List Item) (gates : List ℕ) (s : State) (threads : ℕ) (fault : OrdersFault) → AreGates start items gates s
+pub not_laid_out : (start : State) (items : List Item) (gates : Gates) (s : State) (threads : ℕ) (fault : OrdersFault) → AreGates start items gates s
     → threads ≡ start.threads → IsPlanFault (λ line. race_of threads gates items ≡ Some line) fault → IsPlanFault (IsRace start items) fault
 not_laid_out start items gates s threads (orders.Race line) made same first =
     record { gates = gates; s = s; made = made; first = ap (λ (n : ℕ). race_of n gates items) (sym same) ∙ first }
@@ -256,7 +255,7 @@ first_fault input orders.Memory stops = tt
 late_fault : (input : List ℕ) (count : ℕ) (now : Read) (fault : OrdersFault) → ((fault : OrdersFault) → Stops (count + 1) now [] fault → Stops 1 unread (lines_of input) fault)
     → ReadsAll 1 unread (lines_of input) now → IsLateFault (count + 1) now fault → IsFirstFault input fault
 late_fault input count now fault stops reads (inl (none, is)) = first_fault input fault (stops fault (none, is))
-late_fault input count now (orders.Race line) stops reads (inr race) = record { read = now; now = race.now; reads = reads; is = race.is; first = race.first }
+late_fault input count now (orders.Race line) stops reads (inr race) = inl (record { read = now; now = race.now; reads = reads; is = race.is; first = race.first })
 late_fault input count now orders.Memory stops reads (inr memory) = tt
 late_fault input count now (orders.NoThread line) stops reads (inr none) = absurd none
 late_fault input count now (orders.Run fault) stops reads (inr none) = absurd none

@@ -1,8 +1,11 @@
 -- Gates: a late creation, one after a call, is a step of its lane too. It is made before all calls, so that each handle keeps its number, and an
--- event that no line names, its gate, is set when its line goes. What names its handle in another lane waits for the gate first.
+-- event that no line names, its gate, is set when its line goes. What names its handle in another lane waits for the gate first. As its line goes it waits
+-- for its key, an event that is set from the start, and that nobody can set again. A line that closes what it makes another handle of takes that first: then
+-- the creation, which is refused in such an order, waits for ever there, and the order hangs.
 use Rattle.std.specs.Prelude.{◌≡◌, ℕ, ◌+◌, ◌==◌, ◌&&◌, ◌++◌, nat_lt, Bool, true, false, not, List, [], ◌∷◌, length, replicate, slice_get, slice_set, slice_index_or, Option, None, Some, is_some, Result, Ok, if◌then◌else◌, codes}
 use Rattle.std.specs.List.{filter, find, fold, list_any}
 use Rattle.std.specs.Fmt.{decimal}
+use Rattle.nt_status.specs.Access.{synchronize}
 use Rattle.nt_status.specs.declared.limits.TheConstants.{INFINITE}
 use Rattle.nt_status.specs.declared.refusal.Refusal.{Refusal}
 use Rattle.nt_calls.specs.State.{State}
@@ -47,11 +50,12 @@ is_late item = makes item.does
 abbrev pub Texts : Type 0
 Texts = List (List (List ℕ))
 
--- what each lane is to do, the lines that tell it, and the text of the lines that stand in front of them
+-- what each lane is to do, the lines that tell it, the text of the lines that stand in front of them, and the late creations
 pub record Lanes : Type 0 where
   pub plan : Plan
   pub texts : Texts
   pub front : List ℕ
+  pub late : List Made
 
 -- the plan, with this as the last in the lane
 abbrev pub with_ask : Plan → ℕ → Ask → Plan
@@ -93,6 +97,10 @@ wait_line lane number = codes "; t" ++ (decimal lane ++ (codes " waits for line 
 abbrev pub made_line : ℕ → List ℕ
 made_line number = codes "; line " ++ (decimal number ++ codes " goes here")
 
+-- and so where the key of one is taken
+abbrev pub taken_line : ℕ → ℕ → List ℕ
+taken_line lane number = codes "; t" ++ (decimal lane ++ (codes " closes the source of line " ++ decimal number))
+
 -- the lane has passed this gate
 abbrev pub has_passed : List Pass → ℕ → ℕ → Bool
 has_passed passed lane gate = list_any (λ pass. (pass.lane == lane) && (pass.gate == gate)) passed
@@ -117,6 +125,37 @@ names (Makes made source) handle = is_handle handle source
 abbrev pub after_if_named : ℕ → Does → Laid → Made → Laid
 after_if_named lane does laid made = if names does made.handle then after lane laid made else laid
 
+-- the handle that is closed so
+abbrev pub closed_by : Ask → Option ℕ
+closed_by (Calls (Call.Act (Act.Close handle))) = Some handle
+closed_by ask = None
+
+-- the line closes this handle, if it is one
+abbrev pub closes : Does → Option ℕ → Bool
+closes does None = false
+closes (Asks ask) (Some handle) = is_handle handle (closed_by ask)
+closes (Makes made source) (Some handle) = false
+
+-- the line closes what this late creation makes another handle of, and its lane has not passed the gate: either of the two may go first
+abbrev pub may_close_first : Laid → Item → Made → Bool
+may_close_first laid item made = closes item.does made.source && not (has_passed laid.passed item.lane made.gate)
+
+-- the key is taken, if it still stands
+abbrev pub taking : ℕ → Ask
+taking key = Calls (Call.Wait (WaitCall.Objects false (record { ms = 0; alertable = false }) (key ∷ [])))
+
+-- the line takes the key of that creation first
+abbrev pub takes_key : Laid → Item → Made → Laid
+takes_key laid item made = with_line laid item.lane (taking made.key) (taken_line item.lane made.number)
+
+-- so it does if it may close first what that makes another handle of
+abbrev pub takes_if_first : Item → Laid → Made → Laid
+takes_if_first item laid made = if may_close_first laid item made then takes_key laid item made else laid
+
+-- what stands before a line for one of the late creations above it
+abbrev pub before_line : Item → Laid → Made → Laid
+before_line item laid made = takes_if_first item (after_if_named item.lane item.does laid made) made
+
 -- it is the lane of one of so many threads, and has nothing to do yet
 abbrev pub is_new : ℕ → ℕ → Laid → Bool
 is_new threads lane laid = nat_lt lane threads && not (is_some (slice_get (asks laid.plan lane) 0))
@@ -134,27 +173,9 @@ after_any lane laid (Some made) = after lane laid made
 abbrev pub after_beginning : ℕ → List Made → ℕ → Laid → Laid
 after_beginning threads above lane laid = if is_new threads lane laid then after_any lane laid (beginning_of lane above) else laid
 
--- what a line waits for before it goes, of these late creations above it
+-- what stands before a line, for all late creations above it
 abbrev pub after_all : ℕ → List Made → Laid → Item → Laid
-after_all threads above laid item =
-    fold (after_if_named item.lane item.does) (after_beginning threads above item.lane laid) above
-
--- ---- races
-
--- the handle that is closed so
-abbrev pub closed_by : Ask → Option ℕ
-closed_by (Calls (Call.Act (Act.Close handle))) = Some handle
-closed_by ask = None
-
--- the line closes this handle, if it is one
-abbrev pub closes : Does → Option ℕ → Bool
-closes does None = false
-closes (Asks ask) (Some handle) = is_handle handle (closed_by ask)
-closes (Makes made source) (Some handle) = false
-
--- the line closes what this late creation makes another handle of, and its lane has not passed the gate: either of the two may go first
-abbrev pub may_close_first : Laid → Item → Made → Bool
-may_close_first laid item made = closes item.does made.source && not (has_passed laid.passed item.lane made.gate)
+after_all threads above laid item = fold (before_line item) (after_beginning threads above item.lane laid) above
 
 -- ---- all lines
 
@@ -163,25 +184,45 @@ pub record Planned : Type 0 where
   pub laid : Laid
   pub above : List Made
 
--- the late creation's line goes: it sets its gate
-abbrev pub opened_by : Laid → Item → ℕ → Laid
-opened_by laid item gate = with_passed (with_line laid item.lane (Calls (Call.Act (Act.SetEvent gate))) (made_line item.number)) item.lane gate
+-- by late creation, the gates and the keys
+pub record Gates : Type 0 where
+  pub gates : List ℕ
+  pub keys : List ℕ
 
--- the gate of the late creation after these
-abbrev pub next_gate : List ℕ → List Made → ℕ
-next_gate gates above = slice_index_or gates (length above) 0
+-- the next one after these late creations
+abbrev pub next_of : List ℕ → List Made → ℕ
+next_of handles above = slice_index_or handles (length above) 0
+
+-- the late creation on this line, after these
+abbrev pub made_by : Gates → List Made → Item → (handle : ℕ) → (source : Option ℕ) → Made
+made_by gates above item handle source = record {
+  number = item.number;
+  who = item.lane;
+  handle = handle;
+  source = source;
+  gate = next_of gates.gates above;
+  key = next_of gates.keys above;
+}
+
+-- its gate is set, and its key is waited for, in one step
+abbrev pub opening : (gate key : ℕ) → Ask
+opening gate key = Calls (Call.Wait (WaitCall.Swap gate key (record { ms = INFINITE; alertable = false })))
+
+-- its line goes so
+abbrev pub opened_by : Laid → Made → Laid
+opened_by laid made = with_passed (with_line laid made.who (opening made.gate made.key) (made_line made.number)) made.who made.gate
+
+-- and is the last of the late creations so far
+abbrev pub with_opened : Planned → Made → Planned
+with_opened old made = record { laid = opened_by old.laid made; above = old.above ++ made ∷ [] }
 
 -- the line goes when all went for which it waits
-abbrev pub goes_last : List ℕ → Planned → Item → Does → Planned
+abbrev pub goes_last : Gates → Planned → Item → Does → Planned
 goes_last gates old item (Asks ask) = record { laid = with_line old.laid item.lane ask item.bytes; above = old.above }
-goes_last gates old item (Makes handle source) =
-    record {
-      laid = opened_by old.laid item (next_gate gates old.above);
-      above = old.above ++ record { number = item.number; who = item.lane; handle = handle; source = source; gate = next_gate gates old.above } ∷ [];
-    }
+goes_last gates old item (Makes handle source) = with_opened old (made_by gates old.above item handle source)
 
 -- a line more is planned
-abbrev pub planned_on : ℕ → List ℕ → Planned → Item → Planned
+abbrev pub planned_on : ℕ → Gates → Planned → Item → Planned
 planned_on threads gates old item =
     goes_last gates (record { laid = after_all threads old.above old.laid item; above = old.above }) item item.does
 
@@ -190,43 +231,42 @@ abbrev pub none_planned : ℕ → Planned
 none_planned threads = record { laid = none_laid threads; above = [] }
 
 -- these lines are planned, with these gates
-abbrev pub planned_all : ℕ → List ℕ → List Item → Planned
+abbrev pub planned_all : ℕ → Gates → List Item → Planned
 planned_all threads gates items = fold (planned_on threads gates) (none_planned threads) items
 
--- What a line makes or closes may be another thing in another order: it closes a handle of which a late creation above it makes another one, and neither
--- has to wait for the other; or it gives a handle whose number a line above it names.
-abbrev pub is_race : List Made → Laid → Item → Does → Bool
-is_race above laid item (Asks ask) = list_any (may_close_first laid item) above
-is_race above laid item (Makes handle source) = plan_names laid.plan handle
+-- a late creation gives a handle whose number a line above it names: in another order that line names what is made here
+abbrev pub is_race : Laid → Does → Bool
+is_race laid (Asks ask) = false
+is_race laid (Makes handle source) = plan_names laid.plan handle
 
 -- so it is of this line, once that waited for what it has to
 abbrev pub races : ℕ → Planned → Item → Bool
-races threads old item = is_race old.above (after_all threads old.above old.laid item) item item.does
+races threads old item = is_race (after_all threads old.above old.laid item) item.does
 
 -- the number of the first such line
-abbrev pub first_race : ℕ → List ℕ → Planned → List Item → Option ℕ
+abbrev pub first_race : ℕ → Gates → Planned → List Item → Option ℕ
 first_race threads gates old [] = None
 first_race threads gates old (item ∷ items) =
     if races threads old item then Some item.number else first_race threads gates (planned_on threads gates old item) items
 
 -- the same of all lines
-abbrev pub race_of : ℕ → List ℕ → List Item → Option ℕ
+abbrev pub race_of : ℕ → Gates → List Item → Option ℕ
 race_of threads gates items = first_race threads gates (none_planned threads) items
 
--- the lanes that are laid out so, after this text
-abbrev pub lanes_with : Laid → List ℕ → Lanes
-lanes_with laid front = record { plan = laid.plan; texts = laid.texts; front = front }
+-- the lanes that are planned so, after this text
+abbrev pub lanes_with : Planned → List ℕ → Lanes
+lanes_with all front = record { plan = all.laid.plan; texts = all.laid.texts; front = front; late = all.above }
 
 -- the lanes of these lines
-abbrev pub planned : ℕ → List ℕ → List ℕ → List Item → Lanes
-planned threads gates front items = lanes_with (planned_all threads gates items).laid front
+abbrev pub planned : ℕ → Gates → List ℕ → List Item → Lanes
+planned threads gates front items = lanes_with (planned_all threads gates items) front
 
--- ---- the gates
+-- ---- the gates and keys
 
--- a manual-reset event is made, not set, and this is its handle
-abbrev pub MakesGate : State → ℕ → State → Type 0
-MakesGate old gate new =
-    (result : Result Reply Refusal) × (grants : List Grant) × (handle_of result ≡ Some gate) × Called old 0 (Call.Act (Act.CreateEvent 1)) result grants new
+-- the act gives this handle
+abbrev pub Gives : State → Act → ℕ → State → Type 0
+Gives old act handle new =
+    (result : Result Reply Refusal) × (grants : List Grant) × (handle_of result ≡ Some handle) × Called old 0 (Call.Act act) result grants new
 
 -- one of these lines names the handle
 abbrev pub is_named : List Item → ℕ → Bool
@@ -237,17 +277,29 @@ abbrev pub ClosesIf : Bool → State → ℕ → State → Type 0
 ClosesIf false old event new = new ≡ old
 ClosesIf true old event new = (reply : Reply) × (grants : List Grant) × Called old 0 (Call.Act (Act.Close event)) (Ok reply) grants new
 
+-- what is made: a gate, a manual-reset event that is not set; or a key, the one handle of an auto-reset event that is set, with the right to wait alone
+pub data Kind : Type 0 where
+  Gate : Kind
+  Key : Kind
+
+abbrev pub MakesOne : Kind → State → ℕ → State → Type 0
+MakesOne Gate old gate new = Gives old (Act.CreateEvent 1) gate new
+MakesOne Key old key new =
+    (event : ℕ) × (made left : State) × Gives old (Act.CreateEvent 2) event made × Gives made (Act.Duplicate event synchronize) key left
+    × ClosesIf true left event new
+
 -- such events are made, one after another, and each that a line names is closed at once, so that the line is refused as in the script
-abbrev pub MakesEvents : List Item → State → List ℕ → State → Type 0
-MakesEvents items old [] new = new ≡ old
-MakesEvents items old (event ∷ events) new =
-    (mid left : State) × MakesGate old event mid × ClosesIf (is_named items event) mid event left × MakesEvents items left events new
+abbrev pub MakesEvents : Kind → List Item → State → List ℕ → State → Type 0
+MakesEvents kind items old [] new = new ≡ old
+MakesEvents kind items old (event ∷ events) new =
+    (mid left : State) × MakesOne kind old event mid × ClosesIf (is_named items event) mid event left × MakesEvents kind items left events new
 
--- the gates are those of them that no line names
-abbrev pub gates_of : List Item → List ℕ → List ℕ
-gates_of items events = filter (λ event. not (is_named items event)) events
+-- those of them that no line names
+abbrev pub unnamed_of : List Item → List ℕ → List ℕ
+unnamed_of items events = filter (λ event. not (is_named items event)) events
 
-pub record MakesGates (items : List Item) (old : State) (gates : List ℕ) (new : State) : Type 0 where
+-- so these events are made, and no line names them
+pub record MakesUnnamed (kind : Kind) (items : List Item) (old : State) (unnamed : List ℕ) (new : State) : Type 0 where
   pub events : List ℕ
-  pub made : MakesEvents items old events new
-  pub are : gates ≡ gates_of items events
+  pub made : MakesEvents kind items old events new
+  pub are : unnamed ≡ unnamed_of items events

@@ -27,11 +27,16 @@ use Rattle.nt_orders.specs.declared.reading.Reading.{Reading}
 use Rattle.nt_orders.specs.declared.items.Does as kept_does
 use Rattle.nt_orders.specs.declared.items.Does.TheVariants as does
 use Rattle.nt_orders.specs.declared.items.Item as kept_item
+use Rattle.nt_orders.specs.declared.items.Ended as kept_ended
 use Rattle.nt_orders.specs.declared.laying.Laid as kept_laid
+use Rattle.nt_orders.specs.declared.order.Gone as kept_gone
+use Rattle.nt_orders.specs.declared.planning.Gates as kept_gates
+use Rattle.nt_orders.specs.declared.planning.Kind as kept_kind
+use Rattle.nt_orders.specs.declared.planning.Kind.TheVariants as kind
 use Rattle.nt_orders.specs.declared.planning.Planned as kept_planned
 use Rattle.nt_orders.specs.Gates as gates
-use Rattle.nt_orders.specs.Gates.{Does, Item, Laid, Lanes, Planned, Texts}
-use Rattle.nt_orders.specs.Plans.{AsksOf, Gone, IsLaidOut, IsLineThat, IsOfLane, IsOfNobody, IsOfStart, IsRace, Read, ReadsAll, Stops, creation_of, is_left_out, is_of_nobody, is_of_start, unread}
+use Rattle.nt_orders.specs.Gates.{Does, Gate, Gates, Item, Key, Kind, Laid, Lanes, Planned, Texts}
+use Rattle.nt_orders.specs.Plans.{AsksOf, Ended, Gone, IsLaidOut, IsLineThat, IsOfLane, IsOfNobody, IsOfStart, IsRace, Read, ReadsAll, Stops, creation_of, is_left_out, is_of_nobody, is_of_start, unread}
 
 -- a line as it stands
 abbrev pub line_bytes : Line → List ℕ
@@ -43,7 +48,7 @@ texts_of lines = map (λ lane. map line_bytes lane.items) lines
 
 -- the lanes of a script that was read
 abbrev pub lanes_of : Script → Lanes
-lanes_of script = record { plan = script.plan; texts = texts_of script.lines.items; front = script.front.items }
+lanes_of script = record { plan = script.plan; texts = texts_of script.lines.items; front = script.front.items; late = script.late.items }
 
 -- what a line does when its lane goes
 abbrev pub does_of : kept_does.Does → Does
@@ -54,13 +59,17 @@ does_of (does.Makes handle source) = gates.Makes handle source
 abbrev pub item_of : kept_item.Item → Item
 item_of item = record { number = item.line.number; bytes = item.line.bytes.items; lane = item.lane; does = does_of item.does }
 
+-- what ended on the lines above
+abbrev pub ended_of : kept_ended.Ended → Ended
+ended_of ended = record { closed = ended.closed.items; exited = ended.exited.items }
+
 -- how far a script was read
 abbrev pub read_of : Reading → Read
 read_of reading = record {
   seen = seen_of reading.watch;
   front = reading.front.items;
   items = map item_of reading.items.items;
-  closed = reading.closed.items;
+  ended = ended_of reading.ended;
 }
 
 -- the lanes as they are laid out
@@ -71,9 +80,18 @@ laid_of laid = record { plan = laid.plan; texts = texts_of laid.lines.items; pas
 abbrev pub planned_of : kept_planned.Planned → Planned
 planned_of planned = record { laid = laid_of planned.laid; above = planned.above.items }
 
--- how far an order was gone: the text so far, and how many lines of each lane
-abbrev pub gone : Vec ℕ Global → List ℕ → Gone
-gone text at = record { text = text.items; at = at }
+-- what is made
+abbrev pub kind_of : kept_kind.Kind → Kind
+kind_of kind.Gate = Gate
+kind_of kind.Key = Key
+
+-- the gates and keys
+abbrev pub gates_of : kept_gates.Gates → Gates
+gates_of made = record { gates = made.gates.items; keys = made.keys.items }
+
+-- how far an order was gone
+abbrev pub gone_of : kept_gone.Gone → Gone
+gone_of gone = record { text = gone.text.items; at = gone.at.items; awaited = gone.awaited.items; refused = gone.refused }
 
 -- ---- one line
 
@@ -89,12 +107,12 @@ at_line number (lane.Line line.Memory) = orders.Run (run.Memory number)
 at_line number lane.NoThread = orders.NoThread number
 
 -- the statement is carried out before all calls, or left out, or asks this of this lane, or is of no lane
-abbrev pub IsFoundOf : ℕ → List ℕ → Statement → Result Found LaneFault → Type 0
-IsFoundOf threads closed statement (Ok (found.Start creation)) = (is_of_start closed statement ≡ true) × (creation ≡ creation_of statement)
-IsFoundOf threads closed statement (Ok found.Nothing) = is_left_out closed statement ≡ true
-IsFoundOf threads closed statement (Ok (found.Asks place ask)) = AsksOf threads statement place (asked ask)
-IsFoundOf threads closed statement (Err (lane.Line fault)) = ⊥
-IsFoundOf threads closed statement (Err lane.NoThread) = is_of_nobody threads statement ≡ true
+abbrev pub IsFoundOf : ℕ → Ended → Statement → Result Found LaneFault → Type 0
+IsFoundOf threads ended statement (Ok (found.Start creation)) = (is_of_start ended statement ≡ true) × (creation ≡ creation_of statement)
+IsFoundOf threads ended statement (Ok found.Nothing) = is_left_out ended statement ≡ true
+IsFoundOf threads ended statement (Ok (found.Asks place ask)) = AsksOf threads statement place (asked ask)
+IsFoundOf threads ended statement (Err (lane.Line fault)) = ⊥
+IsFoundOf threads ended statement (Err lane.NoThread) = is_of_nobody threads statement ≡ true
 
 -- the line can't be read, for this cause
 abbrev pub IsLaneFault : Option Progress → List ℕ → LaneFault → Type 0
@@ -102,11 +120,11 @@ IsLaneFault now bytes (lane.Line fault) = LineHasFault now bytes fault
 IsLaneFault now bytes lane.NoThread = IsOfNobody now bytes
 
 -- the line is carried out before all calls, or left out, or asks this of this lane, or can't be read
-abbrev pub Finds : Option Progress → List ℕ → List ℕ → Result Found LaneFault → Type 0
-Finds now closed bytes (Ok (found.Start creation)) = IsOfStart now closed bytes creation
-Finds now closed bytes (Ok found.Nothing) = IsLineThat now (is_left_out closed) bytes
-Finds now closed bytes (Ok (found.Asks place ask)) = IsOfLane now bytes place (asked ask)
-Finds now closed bytes (Err fault) = IsLaneFault now bytes fault
+abbrev pub Finds : Option Progress → Ended → List ℕ → Result Found LaneFault → Type 0
+Finds now ended bytes (Ok (found.Start creation)) = IsOfStart now ended bytes creation
+Finds now ended bytes (Ok found.Nothing) = IsLineThat now (is_left_out ended) bytes
+Finds now ended bytes (Ok (found.Asks place ask)) = IsOfLane now bytes place (asked ask)
+Finds now ended bytes (Err fault) = IsLaneFault now bytes fault
 
 -- this is the last of the lines that go when their lanes do, and asks this
 abbrev pub IsLast : List Item → (number : ℕ) → (bytes : List ℕ) → (lane : ℕ) → Ask → List Item → Type 0

@@ -4,8 +4,8 @@ ghost use Rattle.std.specs.List.{list_any};
 ghost use Rattle.nt_lanes.specs.Lanes.{asked};
 ghost use Rattle.nt_orders.specs.Gates.{closed_by, closes, is_handle, names};
 ghost use Rattle.nt_script.specs.Progress.{progress};
-ghost use Rattle.nt_orders.specs.Plans.{is_among, source_of};
-ghost use Rattle.nt_orders.specs.Reading.{Finds, IsFoundOf, does_of};
+ghost use Rattle.nt_orders.specs.Plans.{is_among, is_refused, source_of};
+ghost use Rattle.nt_orders.specs.Reading.{Finds, IsFoundOf, does_of, ended_of};
 
 use crate::lanes::Line;
 use nt_calls::{Act, Call};
@@ -21,6 +21,13 @@ use std::alloc::{AllocError, Global};
 pub(crate) struct Creation {
     pub who: u32,
     pub source: Option<Handle>,
+}
+
+/// What ended on the lines above: the handles that they close, and the threads that exit there.
+#[derive(Drop)]
+pub(crate) struct Ended {
+    pub closed: Vec<Handle>,
+    pub exited: Vec<u32>,
 }
 
 /// What a line does when its lane goes.
@@ -123,32 +130,41 @@ fn source_of(act: Act) -> Option<Handle>
 }
 
 /// Whether the handle is one of these.
-fn is_one_of(handles: &[Handle], handle: Handle) -> bool
-    ensures { result ≡ list_any (λ it. it == handle) handles.now }
+pub(crate) fn is_one_of(handles: &[Handle], handle: Handle) -> bool
+    ensures { result ≡ is_among handles.now (Some handle) }
 {
     handles.iter().any(|it| *it == handle)
 }
 
-/// Whether the handle, if there is one, is one of these.
-fn is_among(handles: &[Handle], sought: Option<Handle>) -> bool
-    ensures { result ≡ is_among handles.now sought }
-{
-    match sought {
-        Some(handle) => is_one_of(handles, handle),
-        None => false,
+impl Ended {
+    /// Whether the thread has exited.
+    fn has_exited(&self, thread: u32) -> bool
+        ensures { result ≡ is_among self.now.exited.items (Some thread) }
+    {
+        self.exited.iter().any(|it| *it == thread)
+    }
+
+    /// Whether the handle, if there is one, is closed.
+    fn is_closed(&self, source: Option<Handle>) -> bool
+        ensures { result ≡ is_among self.now.closed.items source }
+    {
+        match source {
+            Some(handle) => is_one_of(&self.closed, handle),
+            None => false,
+        }
+    }
+
+    /// Whether the creation is refused in each order.
+    fn refuses(&self, creation: &Creation) -> bool
+        ensures { result ≡ is_refused (ended_of self.now) creation.now.who creation.now.source }
+    {
+        self.has_exited(creation.who) || self.is_closed(creation.source)
     }
 }
 
-/// Whether the creation makes another one of these handles.
-fn is_left_out(closed: &[Handle], creation: &Creation) -> bool
-    ensures { result ≡ is_among closed.now creation.now.source }
-{
-    is_among(closed, creation.source)
-}
-
-/// What a statement is, after lines that close these handles.
-fn found_of(statement: Statement, threads: u32, closed: &[Handle]) -> Result<Found, LaneFault>
-    ensures { IsFoundOf threads closed.now statement result }
+/// What a statement is, after lines that end this.
+fn found_of(statement: Statement, threads: u32, ended: &Ended) -> Result<Found, LaneFault>
+    ensures { IsFoundOf threads (ended_of ended.now) statement result }
 {
     match statement {
         Statement::Blank => Ok(Found::Start(None)),
@@ -161,7 +177,7 @@ fn found_of(statement: Statement, threads: u32, closed: &[Handle]) -> Result<Fou
                 who,
                 source: source_of(act),
             };
-            if is_left_out(closed, &creation) {
+            if ended.refuses(&creation) {
                 Ok(Found::Nothing)
             } else {
                 Ok(Found::Start(Some(creation)))
@@ -178,20 +194,20 @@ fn found_of(statement: Statement, threads: u32, closed: &[Handle]) -> Result<Fou
     }
 }
 
-/// What a line after the `threads` line is, after lines that close these handles.
+/// What a line after the `threads` line is, after lines that end this.
 pub(crate) fn find_in(
     session: &Session,
     alloc: Global,
-    closed: &[Handle],
+    ended: &Ended,
     line: &[u8],
 ) -> Result<Found, LaneFault>
-    ensures { Finds (Some (progress session.now)) closed.now line.now result }
+    ensures { Finds (Some (progress session.now)) (ended_of ended.now) line.now result }
 {
     if line.len() > MAX_LINE {
         return Err(LaneFault::Line(LineFault::Script(ScriptFault::LineTooLong)));
     }
     match session.read(alloc, line) {
-        Ok(statement) => found_of(statement, session.core().threads(), closed),
+        Ok(statement) => found_of(statement, session.core().threads(), ended),
         Err(fault) => Err(LaneFault::Line(fault)),
     }
 }

@@ -33,8 +33,8 @@ pub struct Script {
     pub(crate) lines: Vec<Vec<Line>>,
     /// The lines of no lane, as they stand: those up to the `threads` line, creations, and what says nothing.
     pub(crate) front: Vec<u8>,
-    /// The late creations, with their gates.
-    pub(crate) above: Vec<Made>,
+    /// The late creations, with their gates and keys.
+    pub(crate) late: Vec<Made>,
 }
 
 /// Puts the words of a text, with a space between two.

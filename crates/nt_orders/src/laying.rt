@@ -1,20 +1,23 @@
 //! The lanes as they are laid out, with waits for what stands above.
-ghost use Rattle.std.specs.Prelude.{◌≡◌, ◌++◌, IfOk, OnOk, codes, decimal};
+ghost use Rattle.std.specs.Prelude.{◌≡◌, ◌++◌, ◌∷◌, [], false, IfOk, OnOk, codes, decimal};
+ghost use Rattle.nt_calls.specs.declared.call.Call as Call;
+ghost use Rattle.nt_calls.specs.declared.call.WaitCall as WaitCall;
+ghost use Rattle.nt_look.specs.Orders.{Calls};
 ghost use Rattle.nt_lanes.specs.Lanes.{asked};
-ghost use Rattle.nt_orders.specs.Gates.{after, after_all, after_beginning, after_if_named, beginning_of, has_passed, is_new, made_line, may_close_first, none_laid, opened_by, wait_for, wait_line, with_line, with_passed};
+ghost use Rattle.nt_orders.specs.Gates.{after, after_all, after_beginning, after_if_named, before_line, beginning_of, has_passed, is_new, made_line, may_close_first, none_laid, opened_by, opening, taken_line, takes_if_first, takes_key, taking, wait_for, wait_line, with_line, with_passed};
 ghost use Rattle.nt_orders.specs.Reading.{does_of, item_of, laid_of};
 ghost use Rattle.std.specs.List.{fold};
 ghost use Rattle.std.specs.Option.{option_copied};
 
 use crate::items::{Does, Item, is_handle};
 use crate::lanes::{Line, no_lines, push_line};
-use nt_calls::{Act, Call, WaitCall, WaitMode};
+use nt_calls::{Call, WaitCall, WaitMode};
 use nt_explore::{Ask, Plan};
 use nt_status::{Handle, Handles, INFINITE};
 use nt_wording::put_number;
 use std::alloc::{AllocError, Global};
 
-/// A late creation: its line, its caller, the handle that it gave, that of which it is another one, and its gate.
+/// A late creation: its line, its caller, the handle that it gave, that of which it is another one, its gate, and its key.
 #[derive(Clone, Copy)]
 pub(crate) struct Made {
     pub number: u64,
@@ -22,6 +25,7 @@ pub(crate) struct Made {
     pub handle: Handle,
     pub source: Option<Handle>,
     pub gate: Handle,
+    pub key: Handle,
 }
 
 /// A lane has passed a gate: it waited for it, or set it.
@@ -40,18 +44,49 @@ pub(crate) struct Laid {
     pub passed: Vec<Pass>,
 }
 
+/// How a wait for so many milliseconds goes.
+fn for_ms(ms: u32) -> WaitMode
+    ensures { (result.ms ≡ ms) × (result.alertable ≡ false) }
+{
+    WaitMode {
+        ms,
+        alertable: false,
+    }
+}
+
+/// A wait for one object.
+fn wait_one(alloc: Global, object: Handle, ms: u32) -> Ask
+    ensures { asked result ≡ Calls (Call.Wait (WaitCall.Objects false (record { ms = ms; alertable = false }) (object ∷ []))) }
+{
+    Ask::Call(Call::Wait(WaitCall::Objects {
+        all: false,
+        mode: for_ms(ms),
+        handles: Handles::from_one(alloc, object),
+    }))
+}
+
 /// A wait for the gate, without end.
 fn wait_for(alloc: Global, gate: Handle) -> Ask
     ensures { asked result ≡ wait_for gate }
 {
-    let mode = WaitMode {
-        ms: INFINITE,
-        alertable: false,
-    };
-    Ask::Call(Call::Wait(WaitCall::Objects {
-        all: false,
-        mode,
-        handles: Handles::from_one(alloc, gate),
+    wait_one(alloc, gate, INFINITE)
+}
+
+/// The key is taken, if it still stands.
+fn taking(alloc: Global, key: Handle) -> Ask
+    ensures { asked result ≡ taking key }
+{
+    wait_one(alloc, key, 0)
+}
+
+/// The gate is set, and the key is waited for, in one step.
+fn opening(gate: Handle, key: Handle) -> Ask
+    ensures { asked result ≡ opening gate key }
+{
+    Ask::Call(Call::Wait(WaitCall::Swap {
+        signal: gate,
+        object: key,
+        mode: for_ms(INFINITE),
     }))
 }
 
@@ -74,12 +109,36 @@ fn put_made(out: &mut Vec<u8>, number: u64) -> Result<(), AllocError>
     out.extend_from_slice(b" goes here")
 }
 
+/// Puts the comment that stands for a key that is taken.
+fn put_taken(out: &mut Vec<u8>, lane: u32, number: u64) -> Result<(), AllocError>
+    ensures { OnOk result (out.new.items ≡ out.old.items ++ taken_line lane number) }
+{
+    out.extend_from_slice(b"; t")?;
+    put_number(out, u64::from(lane))?;
+    out.extend_from_slice(b" closes the source of line ")?;
+    put_number(out, number)
+}
+
 /// The line of a wait: that of this number waits, in this lane, for the line of that number.
 fn line_of_wait(alloc: Global, number: u64, lane: u32, other: u64) -> Result<Line, AllocError>
     ensures { IfOk result (λ line. line.bytes.items ≡ wait_line lane other) }
 {
     let mut bytes = Vec::new(alloc);
     put_wait(&mut bytes, lane, other)?;
+    let text = Vec::from_slice(alloc, &bytes[2..])?;
+    Ok(Line {
+        number,
+        text,
+        bytes,
+    })
+}
+
+/// The line of a key that is taken, before the line of this number.
+fn line_of_taken(alloc: Global, number: u64, lane: u32, other: u64) -> Result<Line, AllocError>
+    ensures { IfOk result (λ line. line.bytes.items ≡ taken_line lane other) }
+{
+    let mut bytes = Vec::new(alloc);
+    put_taken(&mut bytes, lane, other)?;
     let text = Vec::from_slice(alloc, &bytes[2..])?;
     Ok(Line {
         number,
@@ -197,24 +256,56 @@ impl Laid {
         Ok(())
     }
 
-    /// The line waits for those of these late creations which it names.
-    fn wait_for_named(
+    /// Whether the line closes what the late creation makes another handle of, and may go first.
+    fn may_close_first(&self, item: &Item, made: &Made) -> bool
+        ensures { result ≡ may_close_first (laid_of self.now) (item_of item.now) made.now }
+    {
+        item.does.closes(made.source) && !self.has_passed(item.lane, made.gate)
+    }
+
+    /// The line takes the key of the late creation.
+    fn take_key(&mut self, alloc: Global, item: &Item, made: &Made) -> Result<(), AllocError>
+        ensures { OnOk result (laid_of self.new ≡ takes_key (laid_of self.old) (item_of item.now) made.now) }
+    {
+        let line = line_of_taken(alloc, item.line.number, item.lane, made.number)?;
+        self.push(item.lane, taking(alloc, made.key), line)
+    }
+
+    /// So it does if it may close first what that makes another handle of.
+    fn take_if_first(&mut self, alloc: Global, item: &Item, made: &Made) -> Result<(), AllocError>
+        ensures { OnOk result (laid_of self.new ≡ takes_if_first (item_of item.now) (laid_of self.old) made.now) }
+    {
+        if self.may_close_first(item, made) {
+            self.take_key(alloc, item, made)?;
+        }
+        Ok(())
+    }
+
+    /// What the line does before it goes, for one late creation above it.
+    fn begin_line(&mut self, alloc: Global, item: &Item, made: &Made) -> Result<(), AllocError>
+        ensures { OnOk result (laid_of self.new ≡ before_line (item_of item.now) (laid_of self.old) made.now) }
+    {
+        self.wait_if_named(alloc, item, made)?;
+        self.take_if_first(alloc, item, made)
+    }
+
+    /// The same for each of these.
+    fn begin_for_each(
         &mut self,
         alloc: Global,
         above: &[Made],
         item: &Item,
     ) -> Result<(), AllocError>
-        ensures { OnOk result (laid_of self.new
-            ≡ fold (after_if_named item.now.lane (does_of item.now.does)) (laid_of self.old) above.now) }
+        ensures { OnOk result (laid_of self.new ≡ fold (before_line (item_of item.now)) (laid_of self.old) above.now) }
     {
         for made in above {
-            self.wait_if_named(alloc, item, made)?;
+            self.begin_line(alloc, item, made)?;
         }
         Ok(())
     }
 
-    /// The line waits for what stands above it.
-    pub(crate) fn wait_for_all(
+    /// What the line does before it goes, for what stands above it.
+    pub(crate) fn begin_for_all(
         &mut self,
         alloc: Global,
         threads: u32,
@@ -224,27 +315,16 @@ impl Laid {
         ensures { OnOk result (laid_of self.new ≡ after_all threads above.now (laid_of self.old) (item_of item.now)) }
     {
         self.begin(alloc, threads, above, item)?;
-        self.wait_for_named(alloc, above, item)
+        self.begin_for_each(alloc, above, item)
     }
 
-    /// Whether the line closes what the late creation makes another handle of, and may go first.
-    pub(crate) fn may_close_first(&self, item: &Item, made: &Made) -> bool
-        ensures { result ≡ may_close_first (laid_of self.now) (item_of item.now) made.now }
+    /// The late creation on this line goes.
+    pub(crate) fn open(&mut self, alloc: Global, line: &Line, made: &Made) -> Result<(), AllocError>
+        requires { made.now.number ≡ line.now.number }
+        ensures { OnOk result (laid_of self.new ≡ opened_by (laid_of self.old) made.now) }
     {
-        item.does.closes(made.source) && !self.has_passed(item.lane, made.gate)
-    }
-
-    /// The late creation on this line goes: it sets its gate.
-    pub(crate) fn open(
-        &mut self,
-        alloc: Global,
-        item: &Item,
-        gate: Handle,
-    ) -> Result<(), AllocError>
-        ensures { OnOk result (laid_of self.new ≡ opened_by (laid_of self.old) (item_of item.now) gate) }
-    {
-        let line = line_of_made(alloc, &item.line)?;
-        self.push(item.lane, Ask::Call(Call::Act(Act::SetEvent(gate))), line)?;
-        self.pass(item.lane, gate)
+        let line = line_of_made(alloc, line)?;
+        self.push(made.who, opening(made.gate, made.key), line)?;
+        self.pass(made.who, made.gate)
     }
 }

@@ -1,14 +1,20 @@
 //! An order is gone, from the start; and an order as a script.
-ghost use Rattle.std.specs.Prelude.{◌≡◌, ◌+◌, ◌<◌, ◌^◌, [], slice_index_or, IfOk, IfSome, OnOk, option_map};
-ghost use Rattle.nt_orders.specs.Ending.{order_of};
-ghost use Rattle.nt_orders.specs.Plans.{gone_on, order_text};
-ghost use Rattle.nt_orders.specs.Reading.{gone, lanes_of, texts_of};
+ghost use Rattle.std.specs.Prelude.{◌≡◌, ◌+◌, ◌<◌, ◌^◌, [], slice_index_or, IfErr, IfOk, IfSome, OnOk, option_map, None, Some};
+ghost use Rattle.std.specs.Option.{option_copied, option_or};
+ghost use Rattle.nt_lanes.specs.Lanes.{asked};
+ghost use Rattle.nt_orders.specs.Ending.{order_of, refused_of};
+ghost use Rattle.nt_orders.specs.Plans.{gone_all, gone_on, next_ask, none_gone, number_of, refused_by, with_awaited};
+ghost use Rattle.nt_orders.specs.Reading.{IsPlanFault, gone_of, lanes_of, texts_of};
 
+use crate::fault::OrdersFault;
+use crate::items::is_one_of;
 use crate::lanes::{Line, Script, put_whole};
+use crate::laying::Made;
 use crate::rows::Row;
+use nt_calls::{Call, WaitCall};
 use nt_core::{Core, Reply};
 use nt_explore::{Ask, OrderVerdict};
-use nt_status::Refusal;
+use nt_status::{Handle, Refusal};
 use nt_wording::answer_of;
 use std::alloc::{AllocError, Global};
 
@@ -20,13 +26,9 @@ fn make(core: &mut Core, lane: u32, ask: &Ask) -> Result<Reply, Refusal> {
     }
 }
 
-/// Makes what the lane is asked for, and tells what came of it. Where memory was refused it is another run.
-fn go(alloc: Global, core: &mut Core, lane: u32, ask: &Ask) -> Result<Vec<u8>, AllocError> {
-    let answer = make(core, lane, ask);
-    match answer {
-        Err(Refusal::Memory) => Err(AllocError),
-        _ => answer_of(alloc, &answer, core.grants()),
-    }
+/// Whether it asks for a key. (A step that waits for one tells nothing by how the wait ends.)
+fn asks_for_key(late: &[Made], ask: &Ask) -> bool {
+    late.iter().any(|made| ask.names(made.key))
 }
 
 impl Script {
@@ -36,6 +38,22 @@ impl Script {
             Some(lines) => lines.get(place),
             None => None,
         }
+    }
+
+    /// Makes what the lane is asked for, and tells what came of it. Where memory was refused it is another run.
+    fn answer(
+        &self,
+        alloc: Global,
+        core: &mut Core,
+        lane: u32,
+        ask: &Ask,
+    ) -> Result<Vec<u8>, AllocError> {
+        let answer = match make(core, lane, ask) {
+            Err(Refusal::Memory) => return Err(AllocError),
+            Ok(Reply::Status(_)) if asks_for_key(&self.late, ask) => Ok(Reply::Done),
+            answer => answer,
+        };
+        answer_of(alloc, &answer, core.grants())
     }
 
     /// The lane goes: its next line is carried out.
@@ -52,7 +70,7 @@ impl Script {
         let place = *place;
         match (self.line(lane, place), self.plan.ask(lane, place)) {
             (Some(line), Some(ask)) => {
-                let answer = go(alloc, core, lane, ask)?;
+                let answer = self.answer(alloc, core, lane, ask)?;
                 places[lane as usize] = place.saturating_add(1);
                 let text = line.text.clone()?;
                 Ok(Row {
@@ -140,50 +158,134 @@ fn bytes_at(lines: &[Vec<Line>], lane: u32, place: usize) -> Option<&[u8]>
     Some(own[place].bytes.as_slice())
 }
 
-impl Script {
-    /// Puts the lane's next line, and counts it among those that went.
-    fn put_next(&self, out: &mut Vec<u8>, at: &mut [usize], lane: u32) -> Result<(), AllocError>
-        ensures next { OnOk result (gone out.new at.new
-            ≡ gone_on (texts_of self.now.lines.items) (gone out.old at.old) lane) }
+/// The number of the late creation with this key.
+fn number_of(late: &[Made], key: Handle) -> Option<u64>
+    ensures { result ≡ number_of late.now key }
+{
+    match late.iter().find(|made| made.key == key) {
+        Some(made) => Some(made.number),
+        None => None,
+    }
+}
+
+/// Notes what is waited for alone.
+fn note_awaited(awaited: &mut Vec<Handle>, ask: &Ask) -> Result<(), AllocError>
+    ensures { OnOk result (awaited.new.items ≡ with_awaited awaited.old.items (Some (asked ask.now))) }
+{
+    if let Ask::Call(Call::Wait(WaitCall::Objects { handles, .. })) = ask {
+        if let [handle] = handles.as_slice() {
+            awaited.push(*handle)?;
+        }
+    }
+    Ok(())
+}
+
+/// The late creation that goes so, if its key was taken.
+fn refused_by(late: &[Made], awaited: &[Handle], ask: &Ask) -> Option<u64>
+    ensures { result ≡ refused_by late.now awaited.now (Some (asked ask.now)) }
+{
+    match ask {
+        Ask::Call(Call::Wait(WaitCall::Swap { object, .. })) => {
+            if is_one_of(awaited, *object) {
+                number_of(late, *object)
+            } else {
+                None
+            }
+        }
+        _ => None,
+    }
+}
+
+/// How far an order was gone: the text of its lines, how many of each lane those are, what they waited for alone, and the first late creation
+/// that was refused.
+#[derive(Drop)]
+pub(crate) struct Gone {
+    pub text: Vec<u8>,
+    pub at: Vec<usize>,
+    pub awaited: Vec<Handle>,
+    pub refused: Option<u64>,
+}
+
+impl Gone {
+    /// Notes what is asked of the lane that goes.
+    fn note(&mut self, late: &[Made], ask: &Ask) -> Result<(), AllocError>
+        ensures awaited { OnOk result (self.new.awaited.items ≡ with_awaited self.old.awaited.items (Some (asked ask.now))) }
+        ensures refused { OnOk result (self.new.refused ≡ option_or self.old.refused (refused_by late.now self.old.awaited.items (Some (asked ask.now)))) }
+        ensures text { self.new.text ≡ self.old.text }
+        ensures at { self.new.at ≡ self.old.at }
     {
-        if lane as usize >= at.len() {
+        self.refused = self.refused.or(refused_by(late, &self.awaited, ask));
+        note_awaited(&mut self.awaited, ask)
+    }
+}
+
+impl Script {
+    /// The lane goes: its next line follows.
+    fn put_next(&self, gone: &mut Gone, lane: u32) -> Result<(), AllocError>
+        ensures { OnOk result (gone_of gone.new ≡ gone_on (lanes_of self.now) (gone_of gone.old) lane) }
+    {
+        if lane as usize >= gone.at.len() {
             return Err(AllocError);
         }
-        let place = at[lane as usize];
-        match bytes_at(self.lines.as_slice(), lane, place) {
-            Some(bytes) => {
-                put_whole(out, bytes)?;
-                at[lane as usize] = place + 1;
+        let place = gone.at[lane as usize];
+        match (
+            bytes_at(&self.lines, lane, place),
+            self.plan.ask(lane, place),
+        ) {
+            (Some(bytes), Some(ask)) => {
+                gone.note(&self.late, ask)?;
+                put_whole(&mut gone.text, bytes)?;
+                gone.at[lane as usize] = place + 1;
                 Ok(())
             }
-            None => Err(AllocError),
+            _ => Err(AllocError),
         }
     }
 
-    /// What stands in front of the lanes, and then the lines in this order.
-    fn in_order(&self, alloc: Global, lanes: &[u32]) -> Result<Vec<u8>, AllocError>
-        ensures { IfOk result (λ text.
-            text.items ≡ order_text (texts_of self.now.lines.items) self.now.front.items lanes.now) }
+    /// No lane went yet.
+    fn none_gone(&self, alloc: Global) -> Result<Gone, AllocError>
+        ensures { IfOk result (λ gone. gone_of gone ≡ none_gone (lanes_of self.now)) }
     {
-        let mut out = Vec::from_slice(alloc, &self.front)?;
-        let mut at = Vec::from_elem(alloc, 0, self.lines.len())?;
-        for lane in lanes {
-            self.put_next(&mut out, at.as_mut_slice(), *lane)?;
-        }
-        Ok(out)
+        Ok(Gone {
+            text: Vec::from_slice(alloc, &self.front)?,
+            at: Vec::from_elem(alloc, 0, self.lines.len())?,
+            awaited: Vec::new(alloc),
+            refused: None,
+        })
     }
 
-    /// The order that hangs, as a script, if one does.
+    /// These lanes go, one after another.
+    fn go_all(&self, alloc: Global, order: &[u32]) -> Result<Gone, AllocError>
+        ensures { IfOk result (λ gone. gone_of gone ≡ gone_all (lanes_of self.now) order.now) }
+    {
+        let mut gone = self.none_gone(alloc)?;
+        for lane in order {
+            self.put_next(&mut gone, *lane)?;
+        }
+        Ok(gone)
+    }
+
+    /// The order that hangs, as a script, if one does and no late creation is refused.
     pub(crate) fn order_of(
         &self,
         alloc: Global,
         verdict: &OrderVerdict,
-    ) -> Result<Option<Vec<u8>>, AllocError>
-        ensures { IfOk result (λ order.
-            option_map (λ text. text.items) order ≡ order_of (lanes_of self.now) verdict.now) }
+    ) -> Result<Option<Vec<u8>>, OrdersFault>
+        ensures order { IfOk result (λ order. option_map (λ text. text.items) order ≡ order_of (lanes_of self.now) verdict.now) }
+        ensures none { IfOk result (λ order. refused_of (lanes_of self.now) verdict.now ≡ None) }
+        ensures fault { IfErr result (IsPlanFault (λ line. refused_of (lanes_of self.now) verdict.now ≡ Some line)) }
     {
         match verdict {
-            OrderVerdict::Hangs { lanes, .. } => Ok(Some(self.in_order(alloc, lanes.as_slice())?)),
+            OrderVerdict::Hangs { lanes, .. } => match self.go_all(alloc, lanes) {
+                Ok(
+                    Gone {
+                        refused: Some(line),
+                        ..
+                    },
+                ) => Err(OrdersFault::Race { line }),
+                Ok(Gone { text, .. }) => Ok(Some(text)),
+                Err(_) => Err(OrdersFault::Memory),
+            },
             OrderVerdict::None | OrderVerdict::Met { .. } => Ok(None),
         }
     }

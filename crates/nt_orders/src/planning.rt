@@ -1,10 +1,10 @@
 //! A script's lines are planned, with gates for late creations.
-ghost use Rattle.std.specs.Prelude.{◌≡◌, ◌++◌, ◌∷◌, [], count_by, map, false, true, IfErr, IfOk, None, OnOk, Some};
+ghost use Rattle.std.specs.Prelude.{◌≡◌, ◌++◌, ◌∷◌, [], count_by, length, map, false, true, IfErr, IfOk, None, OnOk, Some};
 ghost use Rattle.std.specs.List.{list_any};
 ghost use Rattle.nt_machine.specs.Dispatcher.{state};
-ghost use Rattle.nt_orders.specs.Gates.{ClosesIf, Makes, MakesGate, gates_of, goes_last, is_late, is_named, is_race, makes, may_close_first, names, none_planned, planned_all, planned_on, race_of, races};
+ghost use Rattle.nt_orders.specs.Gates.{ClosesIf, Gate, Gives, Key, Makes, MakesOne, MakesUnnamed, goes_last, is_late, is_named, is_race, makes, names, none_planned, planned_all, planned_on, race_of, races, unnamed_of};
 ghost use Rattle.nt_orders.specs.Plans.{AreGates, IsLaidOut, IsRace};
-ghost use Rattle.nt_orders.specs.Reading.{IsPlanFault, does_of, item_of, laid_of, lanes_of, planned_of};
+ghost use Rattle.nt_orders.specs.Reading.{IsPlanFault, does_of, gates_of, item_of, kind_of, laid_of, lanes_of, planned_of};
 ghost use Rattle.nt_orders.specs.declared.fault.OrdersFault.TheVariants.{Memory};
 
 use crate::fault::OrdersFault;
@@ -15,7 +15,7 @@ use nt_calls::{Act, Call};
 use nt_core::Core;
 use nt_grammar::handle_of;
 use nt_script::Session;
-use nt_status::{EventFlags, Handle, MAX_HANDLES};
+use nt_status::{Access, EventFlags, Handle, MAX_HANDLES};
 use std::alloc::{AllocError, Global};
 
 /// What is planned so far, and the late creations above.
@@ -25,14 +25,48 @@ pub(crate) struct Planned {
     pub above: Vec<Made>,
 }
 
-/// Makes a gate, and answers its handle.
-fn make_gate(core: &mut Core) -> Result<Handle, AllocError>
-    ensures { IfOk result (λ gate. MakesGate (state core.old) gate (state core.new)) }
+/// What is made for a late creation.
+#[derive(Clone, Copy)]
+pub(crate) enum Kind {
+    Gate,
+    Key,
+}
+
+/// The gates and keys, by late creation.
+#[derive(Drop)]
+pub(crate) struct Gates {
+    pub gates: Vec<Handle>,
+    pub keys: Vec<Handle>,
+}
+
+/// Makes what the act gives.
+fn give(core: &mut Core, act: Act) -> Result<Handle, AllocError>
+    ensures { IfOk result (λ handle. Gives (state core.old) act handle (state core.new)) }
 {
-    let answer = core.call(0, &Call::Act(Act::create_event(EventFlags::MANUAL_RESET)));
+    let answer = core.call(0, &Call::Act(act));
     match handle_of(&answer) {
-        Some(gate) => Ok(gate),
+        Some(handle) => Ok(handle),
         None => Err(AllocError),
+    }
+}
+
+/// Makes a key: an event that is set, with a handle that can only be waited for.
+fn make_key(core: &mut Core) -> Result<Handle, AllocError>
+    ensures { IfOk result (λ key. MakesOne Key (state core.old) key (state core.new)) }
+{
+    let event = give(core, Act::create_event(EventFlags::INITIAL_SET))?;
+    let key = give(core, Act::duplicate(event, Access::SYNCHRONIZE))?;
+    close(core, event)?;
+    Ok(key)
+}
+
+/// Makes a gate or a key.
+fn make_one(core: &mut Core, kind: Kind) -> Result<Handle, AllocError>
+    ensures { IfOk result (λ event. MakesOne (kind_of kind) (state core.old) event (state core.new)) }
+{
+    match kind {
+        Kind::Gate => give(core, Act::create_event(EventFlags::MANUAL_RESET)),
+        Kind::Key => make_key(core),
     }
 }
 
@@ -61,42 +95,59 @@ fn close(core: &mut Core, event: Handle) -> Result<(), AllocError>
     }
 }
 
-/// Keeps the event as a gate, unless a line names it: then it is closed.
-fn keep_gate(
+/// Keeps the event, unless a line names it: then it is closed.
+fn keep_unnamed(
     core: &mut Core,
-    gates: &mut Vec<Handle>,
+    unnamed: &mut Vec<Handle>,
     items: &[Item],
     event: Handle,
 ) -> Result<(), AllocError>
     ensures closes { OnOk result (ClosesIf (is_named (map item_of items.now) event) (state core.old) event (state core.new)) }
-    ensures gates { OnOk result (gates.new.items ≡ gates.old.items ++ gates_of (map item_of items.now) (event ∷ [])) }
+    ensures unnamed { OnOk result (unnamed.new.items ≡ unnamed.old.items ++ unnamed_of (map item_of items.now) (event ∷ [])) }
 {
     if is_named(items, event) {
         return close(core, event);
     }
-    gates.push(event)?;
+    unnamed.push(event)?;
     Ok(())
 }
 
-/// Makes a gate for each late creation among these lines.
-#[tactic(auto, using(crate::proofs::Lines::gates_none, crate::proofs::Lines::gates_more))]
+/// Makes `count` of these that none of the lines names.
+#[tactic(auto, using(crate::proofs::Lines::unnamed_none, crate::proofs::Lines::unnamed_more))]
+fn make_unnamed(
+    core: &mut Core,
+    alloc: Global,
+    items: &[Item],
+    kind: Kind,
+    count: usize,
+) -> Result<Vec<Handle>, AllocError>
+    ensures made { IfOk result (λ unnamed. MakesUnnamed (kind_of kind) (map item_of items.now) (state core.old) unnamed.items (state core.new)) }
+    ensures count { IfOk result (λ unnamed. length unnamed.items ≡ count) }
+{
+    let mut unnamed = Vec::new(alloc);
+    for _ in 0..MAX_HANDLES {
+        if unnamed.len() == count {
+            return Ok(unnamed);
+        }
+        let event = make_one(core, kind)?;
+        keep_unnamed(core, &mut unnamed, items, event)?;
+    }
+    Err(AllocError)
+}
+
+/// Makes a gate and a key for each late creation among these lines.
+#[tactic(auto, using(crate::proofs::Lines::are_gates))]
 pub(crate) fn make_gates(
     core: &mut Core,
     alloc: Global,
     items: &[Item],
-) -> Result<Vec<Handle>, AllocError>
-    ensures { IfOk result (λ gates. AreGates (state core.old) (map item_of items.now) gates.items (state core.new)) }
+) -> Result<Gates, AllocError>
+    ensures { IfOk result (λ made. AreGates (state core.old) (map item_of items.now) (gates_of made) (state core.new)) }
 {
     let count = count_late(items);
-    let mut gates = Vec::new(alloc);
-    for _ in 0..MAX_HANDLES {
-        if gates.len() == count {
-            return Ok(gates);
-        }
-        let event = make_gate(core)?;
-        keep_gate(core, &mut gates, items, event)?;
-    }
-    Err(AllocError)
+    let gates = make_unnamed(core, alloc, items, Kind::Gate, count)?;
+    let keys = make_unnamed(core, alloc, items, Kind::Key, count)?;
+    Ok(Gates { gates, keys })
 }
 
 /// Whether the line makes something.
@@ -128,36 +179,39 @@ fn line_of(line: &Line) -> Result<Line, AllocError>
 }
 
 impl Planned {
-    /// The late creation of this line goes, with the gate after those of the ones above it.
+    /// The late creation on this line goes, with the gate and the key after those of the ones above it.
     fn make(
         &mut self,
         alloc: Global,
-        gates: &[Handle],
+        gates: &Gates,
         item: &Item,
         handle: Handle,
         source: Option<Handle>,
     ) -> Result<(), AllocError>
         ensures { OnOk result (planned_of self.new
-            ≡ goes_last gates.now (planned_of self.old) (item_of item.now) (Makes handle source)) }
+            ≡ goes_last (gates_of gates.now) (planned_of self.old) (item_of item.now) (Makes handle source)) }
     {
-        let Some(gate) = gates.get(self.above.len()) else {
+        let above = self.above.len();
+        let (Some(gate), Some(key)) = (gates.gates.get(above), gates.keys.get(above)) else {
             return Err(AllocError);
         };
-        self.laid.open(alloc, item, *gate)?;
-        self.above.push(Made {
+        let made = Made {
             number: item.line.number,
             who: item.lane,
             handle,
             source,
             gate: *gate,
-        })?;
+            key: *key,
+        };
+        self.laid.open(alloc, &item.line, &made)?;
+        self.above.push(made)?;
         Ok(())
     }
 
     /// The line goes.
-    fn go(&mut self, alloc: Global, gates: &[Handle], item: &Item) -> Result<(), AllocError>
+    fn go(&mut self, alloc: Global, gates: &Gates, item: &Item) -> Result<(), AllocError>
         ensures { OnOk result (planned_of self.new
-            ≡ goes_last gates.now (planned_of self.old) (item_of item.now) (does_of item.now.does)) }
+            ≡ goes_last (gates_of gates.now) (planned_of self.old) (item_of item.now) (does_of item.now.does)) }
     {
         match &item.does {
             Does::Asks(ask) => self
@@ -167,21 +221,12 @@ impl Planned {
         }
     }
 
-    /// Whether the line closes a handle that a late creation above it duplicates, and may go first.
-    fn may_close_first(&self, item: &Item) -> bool
-        ensures { result ≡ list_any (may_close_first (laid_of self.now.laid) (item_of item.now)) self.now.above.items }
-    {
-        self.above
-            .iter()
-            .any(|made| self.laid.may_close_first(item, made))
-    }
-
-    /// Whether a handle may name another thing in another order, for this line.
+    /// Whether the line gives a number that a line above it names.
     fn is_race(&self, item: &Item) -> bool
-        ensures { result ≡ is_race self.now.above.items (laid_of self.now.laid) (item_of item.now) (does_of item.now.does) }
+        ensures { result ≡ is_race (laid_of self.now.laid) (does_of item.now.does) }
     {
         match item.does {
-            Does::Asks(_) => self.may_close_first(item),
+            Does::Asks(_) => false,
             Does::Makes { handle, .. } => self.laid.plan.names(handle),
         }
     }
@@ -191,14 +236,14 @@ impl Planned {
         &mut self,
         alloc: Global,
         threads: u32,
-        gates: &[Handle],
+        gates: &Gates,
         item: &Item,
     ) -> Result<bool, AllocError>
         ensures race { IfOk result (λ race. race ≡ races threads (planned_of self.old) (item_of item.now)) }
         ensures planned { IfOk result (λ race. race ≡ false
-            → planned_of self.new ≡ planned_on threads gates.now (planned_of self.old) (item_of item.now)) }
+            → planned_of self.new ≡ planned_on threads (gates_of gates.now) (planned_of self.old) (item_of item.now)) }
     {
-        self.laid.wait_for_all(alloc, threads, &self.above, item)?;
+        self.laid.begin_for_all(alloc, threads, &self.above, item)?;
         if self.is_race(item) {
             return Ok(true);
         }
@@ -211,11 +256,11 @@ impl Planned {
         &mut self,
         alloc: Global,
         threads: u32,
-        gates: &[Handle],
+        gates: &Gates,
         item: &Item,
     ) -> Result<(), OrdersFault>
         ensures apart { OnOk result (races threads (planned_of self.old) (item_of item.now) ≡ false) }
-        ensures planned { OnOk result (planned_of self.new ≡ planned_on threads gates.now (planned_of self.old) (item_of item.now)) }
+        ensures planned { OnOk result (planned_of self.new ≡ planned_on threads (gates_of gates.now) (planned_of self.old) (item_of item.now)) }
         ensures fault { IfErr result (IsPlanFault (λ line. (line ≡ item.now.line.number)
             × (races threads (planned_of self.old) (item_of item.now) ≡ true))) }
     {
@@ -247,12 +292,12 @@ fn none_planned(alloc: Global, threads: u32) -> Result<Planned, OrdersFault>
 pub(crate) fn plan_all(
     alloc: Global,
     threads: u32,
-    gates: &[Handle],
+    gates: &Gates,
     items: &[Item],
 ) -> Result<Planned, OrdersFault>
-    ensures planned { IfOk result (λ planned. planned_of planned ≡ planned_all threads gates.now (map item_of items.now)) }
-    ensures apart { IfOk result (λ planned. race_of threads gates.now (map item_of items.now) ≡ None) }
-    ensures fault { IfErr result (IsPlanFault (λ line. race_of threads gates.now (map item_of items.now) ≡ Some line)) }
+    ensures planned { IfOk result (λ planned. planned_of planned ≡ planned_all threads (gates_of gates.now) (map item_of items.now)) }
+    ensures apart { IfOk result (λ planned. race_of threads (gates_of gates.now) (map item_of items.now) ≡ None) }
+    ensures fault { IfErr result (IsPlanFault (λ line. race_of threads (gates_of gates.now) (map item_of items.now) ≡ Some line)) }
 {
     let mut planned = none_planned(alloc, threads)?;
     for item in items {
@@ -274,13 +319,13 @@ fn core_of(session: &Session) -> Result<Core, AllocError>
     }
 }
 
-/// The session's dispatcher once a gate is made for each late creation among these lines, and the gates.
+/// The session's dispatcher once a gate and a key are made for each late creation among these lines, and these.
 fn with_gates(
     alloc: Global,
     session: &Session,
     items: &[Item],
-) -> Result<(Core, Vec<Handle>), OrdersFault>
-    ensures made { IfOk result (λ made. AreGates (state session.now.core) (map item_of items.now) made.1.items (state made.0)) }
+) -> Result<(Core, Gates), OrdersFault>
+    ensures made { IfOk result (λ made. AreGates (state session.now.core) (map item_of items.now) (gates_of made.1) (state made.0)) }
     ensures fault { IfErr result (λ fault. fault ≡ Memory) }
 {
     let Ok(mut core) = core_of(session) else {
@@ -292,7 +337,7 @@ fn with_gates(
     }
 }
 
-/// The script of these lines, laid out, with a gate for each late creation.
+/// The script of these lines, laid out, with a gate and a key for each late creation.
 pub(crate) fn lay_out(
     alloc: Global,
     session: Session,
@@ -316,7 +361,7 @@ pub(crate) fn lay_out(
                 plan,
                 lines,
                 front,
-                above,
+                late: above,
             })
         }
         Err(fault) => Err(fault),

@@ -10,13 +10,14 @@ ghost use Rattle.nt_grammar.specs.Scope.{handle_in};
 ghost use Rattle.nt_lanes.specs.Lanes.{asked};
 ghost use Rattle.nt_orders.specs.Ending.{IsFirstFault};
 ghost use Rattle.nt_orders.specs.Gates.{closed_by};
-ghost use Rattle.nt_orders.specs.Plans.{IsPlanOf, Reads, ReadsAll, Stops, given, is_open, made_on, unread, whole_line, with_closed, with_made};
-ghost use Rattle.nt_orders.specs.Reading.{Finds, IsLaneFault, IsLast, IsLateFault, IsScriptOf, at_line, item_of, lanes_of, read_of};
+ghost use Rattle.nt_orders.specs.Plans.{IsPlanOf, Reads, ReadsAll, Stops, given, is_open, made_on, unread, whole_line, with_closed, with_ended, with_exited, with_made};
+ghost use Rattle.nt_orders.specs.Reading.{Finds, IsLaneFault, IsLast, IsLateFault, IsScriptOf, at_line, ended_of, item_of, lanes_of, read_of};
 
 use crate::fault::{OrdersFault, fault_at};
-use crate::items::{Creation, Does, Found, Item, LaneFault, closed_by, find_in};
+use crate::items::{Creation, Does, Ended, Found, Item, LaneFault, closed_by, find_in};
 use crate::lanes::{Script, line_of, put_whole};
 use crate::planning::lay_out;
+use nt_calls::Call;
 use nt_explore::Ask;
 use nt_grammar::{LineFault, ScriptFault};
 use nt_hangs::Watch;
@@ -34,8 +35,8 @@ pub(crate) struct Reading {
     front: Vec<u8>,
     /// The lines that go when their lanes do.
     items: Vec<Item>,
-    /// The handles that these lines close.
-    closed: Vec<Handle>,
+    /// What these lines end.
+    ended: Ended,
 }
 
 /// Why the line with this number can't be read.
@@ -49,11 +50,11 @@ fn orders_fault_at(line: u64, fault: LaneFault) -> OrdersFault
 }
 
 /// The same of any line.
-fn find(watch: &Watch, alloc: Global, closed: &[Handle], line: &[u8]) -> Result<Found, LaneFault>
-    ensures { Finds (seen_of watch.now).now closed.now line.now result }
+fn find(watch: &Watch, alloc: Global, ended: &Ended, line: &[u8]) -> Result<Found, LaneFault>
+    ensures { Finds (seen_of watch.now).now (ended_of ended.now) line.now result }
 {
     match watch.session() {
-        Some(session) => find_in(session, alloc, closed, line),
+        Some(session) => find_in(session, alloc, ended, line),
         None => Ok(Found::Start(None)),
     }
 }
@@ -83,6 +84,28 @@ fn note_closed(
         }
     }
     Ok(())
+}
+
+/// Notes the lane if its thread exits.
+fn note_exited(exited: &mut Vec<u32>, lane: u32, ask: &Ask) -> Result<(), AllocError>
+    ensures { OnOk result (exited.new.items ≡ with_exited exited.old.items lane (asked ask.now)) }
+{
+    match ask {
+        Ask::Call(Call::Exit) => {
+            exited.push(lane)?;
+            Ok(())
+        }
+        _ => Ok(()),
+    }
+}
+
+/// Notes what ends where this is asked of the lane.
+fn note_ended(ended: &mut Ended, watch: &Watch, lane: u32, ask: &Ask) -> Result<(), AllocError>
+    ensures { OnOk result (ended_of ended.new
+        ≡ with_ended (seen_of watch.now).now (ended_of ended.old) lane (asked ask.now)) }
+{
+    note_closed(&mut ended.closed, watch, closed_by(ask))?;
+    note_exited(&mut ended.exited, lane, ask)
 }
 
 /// How many names are bound.
@@ -134,7 +157,10 @@ impl Reading {
             watch: Watch::new(alloc)?,
             front: Vec::new(alloc),
             items: Vec::new(alloc),
-            closed: Vec::new(alloc),
+            ended: Ended {
+                closed: Vec::new(alloc),
+                exited: Vec::new(alloc),
+            },
         })
     }
 
@@ -151,7 +177,7 @@ impl Reading {
             ≡ with_made (read_of self.old).items (made_on number bytes.now creation handle)) }
         ensures watch { self.new.watch ≡ self.old.watch }
         ensures front { self.new.front ≡ self.old.front }
-        ensures closed { self.new.closed ≡ self.old.closed }
+        ensures ended { self.new.ended ≡ self.old.ended }
     {
         if self.items.is_empty() {
             return Ok(());
@@ -170,7 +196,7 @@ impl Reading {
         ensures sees { OnOk result (Sees number line.now (seen_of self.old.watch) (seen_of self.new.watch)) }
         ensures front { self.new.front ≡ self.old.front }
         ensures items { self.new.items ≡ self.old.items }
-        ensures closed { self.new.closed ≡ self.old.closed }
+        ensures ended { self.new.ended ≡ self.old.ended }
         ensures counted { OnOk result (AreCounted (number + 1) (seen_of self.new.watch).now) }
         ensures places { length (seen_of self.new.watch).since ≡ MAX_THREADS }
         ensures fault { IfErr result (LineHasFault (seen_of self.old.watch).now line.now) }
@@ -195,7 +221,7 @@ impl Reading {
         ensures items { OnOk result ((read_of self.new).items ≡ with_made (read_of self.old).items
             (made_on number line.now creation (handle_in (names_of (seen_of self.old.watch).now) bound))) }
         ensures watch { self.new.watch ≡ self.old.watch }
-        ensures closed { self.new.closed ≡ self.old.closed }
+        ensures ended { self.new.ended ≡ self.old.ended }
     {
         put_whole(&mut self.front, line)?;
         let handle = handle_at(&self.watch, bound);
@@ -216,7 +242,7 @@ impl Reading {
         ensures front { OnOk result (self.new.front.items ≡ self.old.front.items ++ whole_line line.now) }
         ensures items { OnOk result ((read_of self.new).items ≡ with_made (read_of self.old).items
             (made_on number line.now creation (given (seen_of self.old.watch).now (seen_of self.new.watch).now))) }
-        ensures closed { self.new.closed ≡ self.old.closed }
+        ensures ended { self.new.ended ≡ self.old.ended }
         ensures counted { OnOk result (AreCounted (number + 1) (seen_of self.new.watch).now) }
         ensures places { length (seen_of self.new.watch).since ≡ MAX_THREADS }
         ensures fault { IfErr result (LineHasFault (seen_of self.old.watch).now line.now) }
@@ -240,13 +266,13 @@ impl Reading {
     ) -> Result<(), AllocError>
         ensures items { OnOk result (IsLast (read_of self.old).items number bytes.now lane (asked ask)
             (read_of self.new).items) }
-        ensures closed { OnOk result (self.new.closed.items ≡ with_closed (seen_of self.old.watch).now
-            self.old.closed.items (closed_by (asked ask))) }
+        ensures ended { OnOk result (ended_of self.new.ended
+            ≡ with_ended (seen_of self.old.watch).now (ended_of self.old.ended) lane (asked ask)) }
         ensures watch { self.new.watch ≡ self.old.watch }
         ensures front { self.new.front ≡ self.old.front }
     {
         let line = line_of(alloc, number, bytes)?;
-        note_closed(&mut self.closed, &self.watch, closed_by(&ask))?;
+        note_ended(&mut self.ended, &self.watch, lane, &ask)?;
         self.items.push(Item {
             lane,
             line,
@@ -265,7 +291,7 @@ impl Reading {
         ensures places { length (seen_of self.new.watch).since ≡ MAX_THREADS }
         ensures fault { IfErr result (IsLaneFault (seen_of self.old.watch).now line.now) }
     {
-        match find(&self.watch, alloc, self.closed.as_slice(), line) {
+        match find(&self.watch, alloc, &self.ended, line) {
             Ok(Found::Asks(lane, ask)) => match self.add(alloc, number, lane, ask, line) {
                 Ok(()) => Ok(()),
                 Err(_) => Err(LaneFault::Line(LineFault::Memory)),

@@ -1,11 +1,12 @@
 //! The report of a script's orders.
-ghost use Rattle.std.specs.Prelude.{◌≡◌, IfOk, OnErr, option_map};
+ghost use Rattle.std.specs.Prelude.{◌≡◌, IfErr, IfOk, None, OnErr, Some, option_map};
 ghost use Rattle.nt_machine.specs.Dispatcher.{state};
 ghost use Rattle.nt_hangs.specs.Watching.{before_zero};
 ghost use Rattle.nt_explore.specs.Search.{TellsVerdict};
 ghost use Rattle.nt_lanes.specs.Lanes.{beginning};
-ghost use Rattle.nt_orders.specs.Ending.{verdict_code, order_of, IsCutOff, IsSearched, IsOrdersOutcome};
-ghost use Rattle.nt_orders.specs.Reading.{lanes_of};
+ghost use Rattle.nt_orders.specs.Ending.{verdict_code, order_of, refused_of, IsCutOff, IsSearched, IsOrdersOutcome};
+ghost use Rattle.nt_orders.specs.Reading.{IsPlanFault, lanes_of};
+ghost use Rattle.nt_orders.specs.declared.fault.OrdersFault.TheVariants.{Memory};
 
 use crate::fault::OrdersFault;
 use crate::lanes::Script;
@@ -114,7 +115,7 @@ impl Script {
     /// What tells names: the script's comments, and that a gate is of its line.
     fn titles(&self, alloc: Global, told: &[u8]) -> Result<Vec<u8>, AllocError> {
         let mut out = Vec::from_slice(alloc, told)?;
-        for made in &self.above {
+        for made in &self.late {
             put_gate_title(&mut out, self.session.core(), made)?;
         }
         Ok(out)
@@ -228,22 +229,48 @@ impl Script {
         explore(alloc, self.session.core(), &self.plan, most, progress)
     }
 
-    /// Reports on what was explored.
+    /// Reports on what was explored, with the names that the script's comments and the gates give.
+    fn report_with_titles(
+        &mut self,
+        alloc: Global,
+        file: &[u8],
+        told: &[u8],
+        explored: &Explored,
+    ) -> Result<Report, OrdersFault>
+        ensures code { IfOk result (λ report. report.code ≡ verdict_code explored.now.verdict) }
+        ensures fault { IfErr result (λ fault. fault ≡ Memory) }
+    {
+        let Ok(titles) = self.titles(alloc, told) else {
+            return Err(OrdersFault::Memory);
+        };
+        match self.report(alloc, file, &titles, explored) {
+            Ok(report) => Ok(report),
+            Err(_) => Err(OrdersFault::Memory),
+        }
+    }
+
+    /// Reports on what was explored, unless a late creation is refused there.
     fn findings(
         &mut self,
         alloc: Global,
         file: &[u8],
         told: &[u8],
         explored: &Explored,
-    ) -> Result<Findings, AllocError>
+    ) -> Result<Findings, OrdersFault>
         ensures code { IfOk result (λ found. found.report.code ≡ verdict_code explored.now.verdict) }
         ensures order { IfOk result (λ found. option_map (λ text. text.items) found.order
             ≡ order_of (lanes_of self.old) explored.now.verdict) }
+        ensures none { IfOk result (λ found. refused_of (lanes_of self.old) explored.now.verdict ≡ None) }
+        ensures fault { IfErr result (IsPlanFault (λ line. refused_of (lanes_of self.old) explored.now.verdict ≡ Some line)) }
     {
-        let order = self.order_of(alloc, &explored.verdict)?;
-        let titles = self.titles(alloc, told)?;
-        let report = self.report(alloc, file, &titles, explored)?;
-        Ok(Findings { report, order })
+        let order = match self.order_of(alloc, &explored.verdict) {
+            Ok(order) => order,
+            Err(fault) => return Err(fault),
+        };
+        match self.report_with_titles(alloc, file, told, explored) {
+            Ok(report) => Ok(Findings { report, order }),
+            Err(fault) => Err(fault),
+        }
     }
 }
 
@@ -261,10 +288,7 @@ pub fn report_on<P: Sink>(
     let lines = before_zero(input);
     let mut script = read_script(alloc, lines)?;
     match script.search(alloc, most, progress) {
-        Ok(explored) => match script.findings(alloc, file, lines, &explored) {
-            Ok(found) => Ok(found),
-            Err(_) => Err(OrdersFault::Memory),
-        },
+        Ok(explored) => script.findings(alloc, file, lines, &explored),
         Err(_) => Err(OrdersFault::Memory),
     }
 }

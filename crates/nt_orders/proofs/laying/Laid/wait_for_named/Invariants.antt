@@ -1,8 +1,0 @@
-use Rattle.std.proofs.Common.{◌≡◌, take}
-use Rattle.std.specs.List.{fold}
-use Rattle.nt_orders.specs.Gates.{after_if_named}
-use Rattle.nt_orders.specs.Reading.{does_of, laid_of}
-use Rattle.nt_orders.proofs.laying.Laid.wait_for_named.Given as goal
-
-abbrev pub invariant-loop-made : goal.invariant-loop-made
-invariant-loop-made l = laid_of l.self ≡ fold (after_if_named l.item.lane (does_of l.item.does)) (laid_of l.fn.self) (take l.made-index l.above)
