@@ -14,8 +14,8 @@ use Rattle.nt_explore.specs.Search.{TellsVerdict}
 use Rattle.nt_orders.specs.Ending.{EndsEarly, IsCutOff, IsOrdersOutcome, IsSearched, TellsOrdersFault, order_of, refused_of, verdict_code}
 use Rattle.nt_orders.specs.Plans.{IsPlanOf}
 use Rattle.nt_orders.specs.Reading.{IsPlanFault}
+use Rattle.nt_plans.specs.Gates.{Lanes}
 use Rattle.nt_orders.specs.declared.report.Findings.{Findings}
-use Rattle.nt_orders.specs.Gates.{Lanes}
 use Rattle.nt_orders.specs.declared.fault.OrdersFault.{OrdersFault}
 use Rattle.nt_orders.specs.Progress.{IsTold, TellsCourse, TellsLook}
 use Rattle.nt_orders.specs.declared.progress.Progress.{Progress}

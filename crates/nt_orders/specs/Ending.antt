@@ -14,8 +14,8 @@ use Rattle.nt_hangs.specs.Ending.{SaysMemory, Shows}
 use Rattle.nt_hangs.specs.Watching.{before_zero}
 use Rattle.nt_orders.specs.Texts.{order_message, order_status}
 use Rattle.nt_look.specs.Orders.{steps}
-use Rattle.nt_orders.specs.Gates.{Lanes}
 use Rattle.nt_orders.specs.Plans.{IsPlanOf, IsRaceIn, Stops, order_text, refused_in, unread}
+use Rattle.nt_plans.specs.Gates.{Lanes}
 use Rattle.nt_orders.specs.Progress.{TellsCourse}
 use Rattle.nt_orders.specs.declared.fault.OrdersFault.{OrdersFault}
 use Rattle.nt_orders.specs.declared.report.Findings.{Findings}

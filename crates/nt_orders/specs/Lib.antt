@@ -1,5 +1,4 @@
 pub mod Texts
-pub mod Gates
 pub mod Plans
 pub mod Reading
 pub mod Progress

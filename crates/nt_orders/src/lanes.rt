@@ -1,25 +1,18 @@
-//! The lines of a script, by lanes.
-ghost use Rattle.std.specs.Prelude.{◌≡◌, ◌++◌, [], replicate, IfOk, OnOk};
-ghost use Rattle.nt_orders.specs.Gates.{with_text};
-ghost use Rattle.nt_orders.specs.Plans.{whole_line};
-ghost use Rattle.nt_orders.specs.Reading.{texts_of};
+//! A script as a plan.
+ghost use Rattle.std.specs.Prelude.{◌≡◌, ◌++◌, map, IfErr, IfOk, OnOk};
+ghost use Rattle.nt_machine.specs.Dispatcher.{state};
+ghost use Rattle.nt_plans.specs.Kept.{gates_of, item_of};
+ghost use Rattle.nt_plans.specs.Lines.{AreGates};
+ghost use Rattle.nt_orders.specs.Plans.{IsLaidOut, IsRace, whole_line};
+ghost use Rattle.nt_orders.specs.Reading.{IsPlanFault, lanes_of};
+ghost use Rattle.nt_orders.specs.declared.fault.OrdersFault.TheVariants.{Memory};
 
-use crate::laying::Made;
+use crate::fault::OrdersFault;
+use nt_core::Core;
 use nt_explore::Plan;
-use nt_lines::{first_word, text_of};
+use nt_plans::{Gates, Item, Laid, Line, Made, PlanFault, Planned, make_gates, plan_all};
 use nt_script::Session;
 use std::alloc::{AllocError, Global};
-
-/// A line of a lane.
-#[derive(Drop)]
-pub struct Line {
-    /// Its number in the script, from 1 on.
-    pub number: u64,
-    /// Its words, with a space between two.
-    pub text: Vec<u8>,
-    /// All of it, as it stands, without its LF.
-    pub bytes: Vec<u8>,
-}
 
 /// A script as a plan: the dispatcher with all that it creates, and each lane's lines.
 #[derive(Drop)]
@@ -37,70 +30,70 @@ pub struct Script {
     pub(crate) late: Vec<Made>,
 }
 
-/// Puts the words of a text, with a space between two.
-fn put_words(out: &mut Vec<u8>, text: &[u8]) -> Result<(), AllocError> {
-    let mut left = text;
-    for _word in 0..text.len() {
-        let Some((word, rest)) = first_word(left) else {
-            return Ok(());
-        };
-        if !out.is_empty() {
-            out.push(b' ')?;
-        }
-        out.extend_from_slice(word)?;
-        left = rest;
-    }
-    Ok(())
-}
-
-/// The words of a line, with a space between two.
-fn words_of(alloc: Global, line: &[u8]) -> Result<Vec<u8>, AllocError> {
-    let mut text = Vec::new(alloc);
-    if let Some(said) = text_of(line) {
-        put_words(&mut text, said)?;
-    }
-    Ok(text)
-}
-
-/// A line of a lane, with this number.
-pub(crate) fn line_of(alloc: Global, number: u64, line: &[u8]) -> Result<Line, AllocError>
-    ensures { IfOk result (λ made. (made.number ≡ number) × (made.bytes.items ≡ line.now)) }
-{
-    Ok(Line {
-        number,
-        text: words_of(alloc, line)?,
-        bytes: Vec::from_slice(alloc, line)?,
-    })
-}
-
-/// No line yet, in each of `count` lanes.
-pub(crate) fn no_lines(alloc: Global, count: usize) -> Result<Vec<Vec<Line>>, AllocError>
-    ensures { IfOk result (λ lines. texts_of lines.items ≡ replicate count []) }
-{
-    let mut lines = Vec::with_capacity(alloc, count)?;
-    for _ in 0..count {
-        lines.push_reserved(Vec::new(alloc));
-    }
-    Ok(lines)
-}
-
-/// Puts the line last in its lane, if there is that lane.
-#[tactic(auto, using(crate::proofs::Lines::texts_added))]
-pub(crate) fn push_line(lines: &mut Vec<Vec<Line>>, lane: u32, line: Line) -> Result<(), AllocError>
-    ensures { OnOk result (texts_of lines.new.items
-        ≡ with_text (texts_of lines.old.items) lane line.bytes.items) }
-{
-    if lane as usize >= lines.len() {
-        return Ok(());
-    }
-    lines[lane as usize].push(line)?;
-    Ok(())
-}
-
 /// Puts a line as it stands, with an LF.
 pub(crate) fn put_whole(out: &mut Vec<u8>, line: &[u8]) -> Result<(), AllocError>
     ensures { OnOk result (out.new.items ≡ out.old.items ++ whole_line line.now) }
 {
     out.extend_from_slice(line)?;
     out.extend_from_slice(b"\n")
+}
+
+/// A copy of the session's dispatcher.
+fn core_of(session: &Session) -> Result<Core, AllocError>
+    ensures { IfOk result (λ core. core ≡ session.now.core) }
+{
+    match session.core().copy() {
+        Ok(core) => Ok(core),
+        Err(_) => Err(AllocError),
+    }
+}
+
+/// The session's dispatcher once a gate and a key are made for each late creation among these lines, and these.
+fn with_gates(
+    alloc: Global,
+    session: &Session,
+    items: &[Item],
+) -> Result<(Core, Gates), OrdersFault>
+    ensures made { IfOk result (λ made. AreGates (state session.now.core) (map item_of items.now) (gates_of made.1) (state made.0)) }
+    ensures fault { IfErr result (λ fault. fault ≡ Memory) }
+{
+    let Ok(mut core) = core_of(session) else {
+        return Err(OrdersFault::Memory);
+    };
+    match make_gates(&mut core, alloc, items) {
+        Ok(gates) => Ok((core, gates)),
+        Err(_) => Err(OrdersFault::Memory),
+    }
+}
+
+/// The script of these lines, laid out, with a gate and a key for each late creation.
+pub(crate) fn lay_out(
+    alloc: Global,
+    session: Session,
+    objects: Vec<u32>,
+    front: Vec<u8>,
+    items: &[Item],
+) -> Result<Script, OrdersFault>
+    ensures script { IfOk result (λ script. IsLaidOut (state session.core) (map item_of items.now) front.items
+        (lanes_of script) (state script.session.core)) }
+    ensures fault { IfErr result (IsPlanFault (IsRace (state session.core) (map item_of items.now))) }
+{
+    let mut session = session;
+    let (core, gates) = with_gates(alloc, &session, items)?;
+    match plan_all(alloc, session.core().threads(), &gates, items) {
+        Ok(Planned { laid, above }) => {
+            let Laid { plan, lines, .. } = laid;
+            let _before = session.replace_core(core);
+            Ok(Script {
+                session,
+                objects,
+                plan,
+                lines,
+                front,
+                late: above,
+            })
+        }
+        Err(PlanFault::Race { line }) => Err(OrdersFault::Race { line }),
+        Err(PlanFault::Memory) => Err(OrdersFault::Memory),
+    }
 }

@@ -1,19 +1,19 @@
 //! An order is gone, from the start; and an order as a script.
 ghost use Rattle.std.specs.Prelude.{◌≡◌, ◌+◌, ◌<◌, ◌^◌, [], slice_index_or, IfErr, IfOk, IfSome, OnOk, option_map, None, Some};
-ghost use Rattle.std.specs.Option.{option_copied, option_or};
+ghost use Rattle.std.specs.Option.{option_or};
 ghost use Rattle.nt_lanes.specs.Lanes.{asked};
 ghost use Rattle.nt_orders.specs.Ending.{order_of, refused_of};
-ghost use Rattle.nt_orders.specs.Plans.{gone_all, gone_on, next_ask, none_gone, number_of, refused_by, with_awaited};
-ghost use Rattle.nt_orders.specs.Reading.{IsPlanFault, gone_of, lanes_of, texts_of};
+ghost use Rattle.nt_orders.specs.Plans.{gone_all, gone_on, none_gone};
+ghost use Rattle.nt_plans.specs.Gates.{refused_by, with_awaited};
+ghost use Rattle.nt_orders.specs.Reading.{IsPlanFault, gone_of, lanes_of};
+ghost use Rattle.nt_plans.specs.Kept.{texts_of};
 
 use crate::fault::OrdersFault;
-use crate::items::is_one_of;
-use crate::lanes::{Line, Script, put_whole};
-use crate::laying::Made;
+use crate::lanes::{Script, put_whole};
 use crate::rows::Row;
-use nt_calls::{Call, WaitCall};
 use nt_core::{Core, Reply};
 use nt_explore::{Ask, OrderVerdict};
+use nt_plans::{Line, Made, asks_for_key, note_awaited, refused_by};
 use nt_status::{Handle, Refusal};
 use nt_wording::answer_of;
 use std::alloc::{AllocError, Global};
@@ -26,18 +26,10 @@ fn make(core: &mut Core, lane: u32, ask: &Ask) -> Result<Reply, Refusal> {
     }
 }
 
-/// Whether it asks for a key. (A step that waits for one tells nothing by how the wait ends.)
-fn asks_for_key(late: &[Made], ask: &Ask) -> bool {
-    late.iter().any(|made| ask.names(made.key))
-}
-
 impl Script {
     /// The lane's line at this place.
     pub(crate) fn line(&self, lane: u32, place: usize) -> Option<&Line> {
-        match self.lines.get(lane as usize) {
-            Some(lines) => lines.get(place),
-            None => None,
-        }
+        self.lines.get(lane as usize)?.get(place)
     }
 
     /// Makes what the lane is asked for, and tells what came of it. Where memory was refused it is another run.
@@ -158,46 +150,7 @@ fn bytes_at(lines: &[Vec<Line>], lane: u32, place: usize) -> Option<&[u8]>
     Some(own[place].bytes.as_slice())
 }
 
-/// The number of the late creation with this key.
-fn number_of(late: &[Made], key: Handle) -> Option<u64>
-    ensures { result ≡ number_of late.now key }
-{
-    match late.iter().find(|made| made.key == key) {
-        Some(made) => Some(made.number),
-        None => None,
-    }
-}
-
-/// Notes what is waited for alone.
-fn note_awaited(awaited: &mut Vec<Handle>, ask: &Ask) -> Result<(), AllocError>
-    ensures { OnOk result (awaited.new.items ≡ with_awaited awaited.old.items (Some (asked ask.now))) }
-{
-    if let Ask::Call(Call::Wait(WaitCall::Objects { handles, .. })) = ask {
-        if let [handle] = handles.as_slice() {
-            awaited.push(*handle)?;
-        }
-    }
-    Ok(())
-}
-
-/// The late creation that goes so, if its key was taken.
-fn refused_by(late: &[Made], awaited: &[Handle], ask: &Ask) -> Option<u64>
-    ensures { result ≡ refused_by late.now awaited.now (Some (asked ask.now)) }
-{
-    match ask {
-        Ask::Call(Call::Wait(WaitCall::Swap { object, .. })) => {
-            if is_one_of(awaited, *object) {
-                number_of(late, *object)
-            } else {
-                None
-            }
-        }
-        _ => None,
-    }
-}
-
-/// How far an order was gone: the text of its lines, how many of each lane those are, what they waited for alone, and the first late creation
-/// that was refused.
+/// How far an order was gone: its text, how many lines of each lane, what they waited for alone, and the first that was refused.
 #[derive(Drop)]
 pub(crate) struct Gone {
     pub text: Vec<u8>,
@@ -210,7 +163,8 @@ impl Gone {
     /// Notes what is asked of the lane that goes.
     fn note(&mut self, late: &[Made], ask: &Ask) -> Result<(), AllocError>
         ensures awaited { OnOk result (self.new.awaited.items ≡ with_awaited self.old.awaited.items (Some (asked ask.now))) }
-        ensures refused { OnOk result (self.new.refused ≡ option_or self.old.refused (refused_by late.now self.old.awaited.items (Some (asked ask.now)))) }
+        ensures refused { OnOk result (self.new.refused ≡ option_or self.old.refused
+            (refused_by late.now self.old.awaited.items (Some (asked ask.now)))) }
         ensures text { self.new.text ≡ self.old.text }
         ensures at { self.new.at ≡ self.old.at }
     {

@@ -10,7 +10,6 @@ ghost use Rattle.nt_orders.specs.declared.fault.OrdersFault.TheVariants.{Memory}
 
 use crate::fault::OrdersFault;
 use crate::lanes::Script;
-use crate::laying::Made;
 use crate::progress::Progress;
 use crate::reading::read_script;
 use crate::rows::{put_hang, put_rows};
@@ -18,6 +17,7 @@ use nt_core::Core;
 use nt_devices::Sink;
 use nt_explore::{Explored, Loss, OrderVerdict, explore};
 use nt_hangs::{Report, before_zero, verdict_of};
+use nt_plans::Made;
 use nt_wording::{put_number, put_thread_title, put_waiters};
 use std::alloc::{AllocError, Global};
 
@@ -263,14 +263,9 @@ impl Script {
         ensures none { IfOk result (λ found. refused_of (lanes_of self.old) explored.now.verdict ≡ None) }
         ensures fault { IfErr result (IsPlanFault (λ line. refused_of (lanes_of self.old) explored.now.verdict ≡ Some line)) }
     {
-        let order = match self.order_of(alloc, &explored.verdict) {
-            Ok(order) => order,
-            Err(fault) => return Err(fault),
-        };
-        match self.report_with_titles(alloc, file, told, explored) {
-            Ok(report) => Ok(Findings { report, order }),
-            Err(fault) => Err(fault),
-        }
+        let order = self.order_of(alloc, &explored.verdict)?;
+        let report = self.report_with_titles(alloc, file, told, explored)?;
+        Ok(Findings { report, order })
     }
 }
 

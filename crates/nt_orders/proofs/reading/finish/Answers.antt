@@ -3,8 +3,9 @@ use Rattle.std.specs.Prelude.{IfErr, IfOk}
 use Rattle.nt_machine.specs.Dispatcher.{state}
 use Rattle.nt_script.specs.Progress.{progress, progress_of}
 use Rattle.nt_orders.specs.Plans.{IsLaidOut, IsRace}
-use Rattle.nt_orders.specs.Reading.{IsPlanFault, item_of, lanes_of, read_of}
-use Rattle.nt_orders.specs.declared.items.Item.{Item}
+use Rattle.nt_orders.specs.Reading.{IsPlanFault, lanes_of, read_of}
+use Rattle.nt_plans.specs.Kept.{item_of}
+use Rattle.nt_plans.specs.declared.items.Item.{Item}
 use Rattle.nt_orders.proofs.Lines.{race_if_err, script_if_ok}
 use Rattle.nt_orders.proofs.reading.finish.Goals as goal
 

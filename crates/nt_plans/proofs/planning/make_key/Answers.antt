@@ -1,8 +1,8 @@
 use Rattle.std.proofs.Common.{subst}
 use Rattle.nt_calls.specs.declared.call.Act.{Act}
 use Rattle.nt_machine.specs.Dispatcher.{state}
-use Rattle.nt_orders.specs.Gates.{Gives}
-use Rattle.nt_orders.proofs.planning.make_key.Goals as goal
+use Rattle.nt_plans.specs.Gates.{Gives}
+use Rattle.nt_plans.proofs.planning.make_key.Goals as goal
 
 pub returns : goal.returns
 returns c =

@@ -2,39 +2,46 @@
 ghost use Rattle.std.specs.Prelude.{◌≡◌, ◌++◌, ◌∷◌, [], count_by, length, map, false, true, IfErr, IfOk, None, OnOk, Some};
 ghost use Rattle.std.specs.List.{list_any};
 ghost use Rattle.nt_machine.specs.Dispatcher.{state};
-ghost use Rattle.nt_orders.specs.Gates.{ClosesIf, Gate, Gives, Key, Makes, MakesOne, MakesUnnamed, goes_last, is_late, is_named, is_race, makes, names, none_planned, planned_all, planned_on, race_of, races, unnamed_of};
-ghost use Rattle.nt_orders.specs.Plans.{AreGates, IsLaidOut, IsRace};
-ghost use Rattle.nt_orders.specs.Reading.{IsPlanFault, does_of, gates_of, item_of, kind_of, laid_of, lanes_of, planned_of};
-ghost use Rattle.nt_orders.specs.declared.fault.OrdersFault.TheVariants.{Memory};
+ghost use Rattle.nt_plans.specs.Gates.{ClosesIf, Gate, Gives, Key, Makes, MakesOne, MakesUnnamed, goes_last, is_late, is_named, is_race, makes, names, none_planned, planned_all, planned_on, race_of, races, unnamed_of};
+ghost use Rattle.nt_plans.specs.Kept.{IsFault, does_of, gates_of, item_of, kind_of, laid_of, planned_of};
+ghost use Rattle.nt_plans.specs.Lines.{AreGates};
+ghost use Rattle.nt_plans.specs.declared.planning.PlanFault.TheVariants.{Memory};
 
-use crate::fault::OrdersFault;
 use crate::items::{Does, Item, copy_of};
-use crate::lanes::{Line, Script};
 use crate::laying::{Laid, Made};
+use crate::line::Line;
 use nt_calls::{Act, Call};
 use nt_core::Core;
 use nt_grammar::handle_of;
-use nt_script::Session;
 use nt_status::{Access, EventFlags, Handle, MAX_HANDLES};
 use std::alloc::{AllocError, Global};
 
 /// What is planned so far, and the late creations above.
 #[derive(Drop)]
-pub(crate) struct Planned {
+pub struct Planned {
     pub laid: Laid,
     pub above: Vec<Made>,
 }
 
+/// Why lines are not planned.
+#[derive(Clone, Copy, Debug, PartialEq, Eq)]
+pub enum PlanFault {
+    /// This line gives a number that a line above it names.
+    Race { line: u64 },
+    /// Memory was refused.
+    Memory,
+}
+
 /// What is made for a late creation.
 #[derive(Clone, Copy)]
-pub(crate) enum Kind {
+pub enum Kind {
     Gate,
     Key,
 }
 
 /// The gates and keys, by late creation.
 #[derive(Drop)]
-pub(crate) struct Gates {
+pub struct Gates {
     pub gates: Vec<Handle>,
     pub keys: Vec<Handle>,
 }
@@ -121,7 +128,8 @@ fn make_unnamed(
     kind: Kind,
     count: usize,
 ) -> Result<Vec<Handle>, AllocError>
-    ensures made { IfOk result (λ unnamed. MakesUnnamed (kind_of kind) (map item_of items.now) (state core.old) unnamed.items (state core.new)) }
+    ensures made { IfOk result (λ unnamed. MakesUnnamed (kind_of kind) (map item_of items.now)
+        (state core.old) unnamed.items (state core.new)) }
     ensures count { IfOk result (λ unnamed. length unnamed.items ≡ count) }
 {
     let mut unnamed = Vec::new(alloc);
@@ -137,11 +145,7 @@ fn make_unnamed(
 
 /// Makes a gate and a key for each late creation among these lines.
 #[tactic(auto, using(crate::proofs::Lines::are_gates))]
-pub(crate) fn make_gates(
-    core: &mut Core,
-    alloc: Global,
-    items: &[Item],
-) -> Result<Gates, AllocError>
+pub fn make_gates(core: &mut Core, alloc: Global, items: &[Item]) -> Result<Gates, AllocError>
     ensures { IfOk result (λ made. AreGates (state core.old) (map item_of items.now) (gates_of made) (state core.new)) }
 {
     let count = count_late(items);
@@ -161,7 +165,7 @@ fn makes(does: &Does) -> bool
 }
 
 /// How many late creations there are.
-pub(crate) fn count_late(items: &[Item]) -> usize
+fn count_late(items: &[Item]) -> usize
     ensures { result ≡ count_by is_late (map item_of items.now) }
 {
     items.iter().filter(|item| makes(&item.does)).count()
@@ -258,24 +262,25 @@ impl Planned {
         threads: u32,
         gates: &Gates,
         item: &Item,
-    ) -> Result<(), OrdersFault>
+    ) -> Result<(), PlanFault>
         ensures apart { OnOk result (races threads (planned_of self.old) (item_of item.now) ≡ false) }
-        ensures planned { OnOk result (planned_of self.new ≡ planned_on threads (gates_of gates.now) (planned_of self.old) (item_of item.now)) }
-        ensures fault { IfErr result (IsPlanFault (λ line. (line ≡ item.now.line.number)
+        ensures planned { OnOk result (planned_of self.new
+            ≡ planned_on threads (gates_of gates.now) (planned_of self.old) (item_of item.now)) }
+        ensures fault { IfErr result (IsFault (λ line. (line ≡ item.now.line.number)
             × (races threads (planned_of self.old) (item_of item.now) ≡ true))) }
     {
         match self.follow(alloc, threads, gates, item) {
             Ok(false) => Ok(()),
-            Ok(true) => Err(OrdersFault::Race {
+            Ok(true) => Err(PlanFault::Race {
                 line: item.line.number,
             }),
-            Err(_) => Err(OrdersFault::Memory),
+            Err(_) => Err(PlanFault::Memory),
         }
     }
 }
 
 /// Nothing is planned yet.
-fn none_planned(alloc: Global, threads: u32) -> Result<Planned, OrdersFault>
+fn none_planned(alloc: Global, threads: u32) -> Result<Planned, PlanFault>
     ensures planned { IfOk result (λ planned. planned_of planned ≡ none_planned threads) }
     ensures fault { IfErr result (λ fault. fault ≡ Memory) }
 {
@@ -284,20 +289,20 @@ fn none_planned(alloc: Global, threads: u32) -> Result<Planned, OrdersFault>
             laid,
             above: Vec::new(alloc),
         }),
-        Err(_) => Err(OrdersFault::Memory),
+        Err(_) => Err(PlanFault::Memory),
     }
 }
 
 /// Plans these lines of so many threads.
-pub(crate) fn plan_all(
+pub fn plan_all(
     alloc: Global,
     threads: u32,
     gates: &Gates,
     items: &[Item],
-) -> Result<Planned, OrdersFault>
+) -> Result<Planned, PlanFault>
     ensures planned { IfOk result (λ planned. planned_of planned ≡ planned_all threads (gates_of gates.now) (map item_of items.now)) }
     ensures apart { IfOk result (λ planned. race_of threads (gates_of gates.now) (map item_of items.now) ≡ None) }
-    ensures fault { IfErr result (IsPlanFault (λ line. race_of threads (gates_of gates.now) (map item_of items.now) ≡ Some line)) }
+    ensures fault { IfErr result (IsFault (λ line. race_of threads (gates_of gates.now) (map item_of items.now) ≡ Some line)) }
 {
     let mut planned = none_planned(alloc, threads)?;
     for item in items {
@@ -307,63 +312,4 @@ pub(crate) fn plan_all(
         }
     }
     Ok(planned)
-}
-
-/// A copy of the session's dispatcher.
-fn core_of(session: &Session) -> Result<Core, AllocError>
-    ensures { IfOk result (λ core. core ≡ session.now.core) }
-{
-    match session.core().copy() {
-        Ok(core) => Ok(core),
-        Err(_) => Err(AllocError),
-    }
-}
-
-/// The session's dispatcher once a gate and a key are made for each late creation among these lines, and these.
-fn with_gates(
-    alloc: Global,
-    session: &Session,
-    items: &[Item],
-) -> Result<(Core, Gates), OrdersFault>
-    ensures made { IfOk result (λ made. AreGates (state session.now.core) (map item_of items.now) (gates_of made.1) (state made.0)) }
-    ensures fault { IfErr result (λ fault. fault ≡ Memory) }
-{
-    let Ok(mut core) = core_of(session) else {
-        return Err(OrdersFault::Memory);
-    };
-    match make_gates(&mut core, alloc, items) {
-        Ok(gates) => Ok((core, gates)),
-        Err(_) => Err(OrdersFault::Memory),
-    }
-}
-
-/// The script of these lines, laid out, with a gate and a key for each late creation.
-pub(crate) fn lay_out(
-    alloc: Global,
-    session: Session,
-    objects: Vec<u32>,
-    front: Vec<u8>,
-    items: &[Item],
-) -> Result<Script, OrdersFault>
-    ensures script { IfOk result (λ script. IsLaidOut (state session.core) (map item_of items.now) front.items
-        (lanes_of script) (state script.session.core)) }
-    ensures fault { IfErr result (IsPlanFault (IsRace (state session.core) (map item_of items.now))) }
-{
-    let mut session = session;
-    let (core, gates) = with_gates(alloc, &session, items)?;
-    match plan_all(alloc, session.core().threads(), &gates, items) {
-        Ok(Planned { laid, above }) => {
-            let Laid { plan, lines, .. } = laid;
-            let _before = session.replace_core(core);
-            Ok(Script {
-                session,
-                objects,
-                plan,
-                lines,
-                front,
-                late: above,
-            })
-        }
-        Err(fault) => Err(fault),
-    }
 }

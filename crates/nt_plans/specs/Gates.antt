@@ -2,7 +2,7 @@
 -- event that no line names, its gate, is set when its line goes. What names its handle in another lane waits for the gate first. As its line goes it waits
 -- for its key, an event that is set from the start, and that nobody can set again. A line that closes what it makes another handle of takes that first: then
 -- the creation, which is refused in such an order, waits for ever there, and the order hangs.
-use Rattle.std.specs.Prelude.{◌≡◌, ℕ, ◌+◌, ◌==◌, ◌&&◌, ◌++◌, nat_lt, Bool, true, false, not, List, [], ◌∷◌, length, replicate, slice_get, slice_set, slice_index_or, Option, None, Some, is_some, Result, Ok, if◌then◌else◌, codes}
+use Rattle.std.specs.Prelude.{◌≡◌, ℕ, ◌+◌, ◌==◌, ◌&&◌, ◌++◌, nat_lt, Bool, true, false, not, List, [], ◌∷◌, length, replicate, slice_get, slice_set, slice_index_or, Option, None, Some, is_some, option_map, Result, Ok, if◌then◌else◌, codes}
 use Rattle.std.specs.List.{filter, find, fold, list_any}
 use Rattle.std.specs.Fmt.{decimal}
 use Rattle.nt_status.specs.Access.{synchronize}
@@ -18,8 +18,8 @@ use Rattle.nt_calls.specs.declared.call.Grant.{Grant}
 use Rattle.nt_grammar.specs.Naming.{handle_of}
 use Rattle.nt_look.specs.Orders.{Ask, Calls, Plan, asks}
 use Rattle.nt_lanes.specs.Lanes.{names_handle, plan_names}
-use Rattle.nt_orders.specs.declared.laying.Made.{Made}
-use Rattle.nt_orders.specs.declared.laying.Pass.{Pass}
+use Rattle.nt_plans.specs.declared.laying.Made.{Made}
+use Rattle.nt_plans.specs.declared.laying.Pass.{Pass}
 
 -- ---- lines that go when their lanes do
 
@@ -176,6 +176,26 @@ after_beginning threads above lane laid = if is_new threads lane laid then after
 -- what stands before a line, for all late creations above it
 abbrev pub after_all : ℕ → List Made → Laid → Item → Laid
 after_all threads above laid item = fold (before_line item) (after_beginning threads above item.lane laid) above
+
+-- ---- keys that are taken
+
+-- the key of one of these is asked for
+abbrev pub asks_for_key : List Made → Ask → Bool
+asks_for_key late ask = list_any (λ made. names_handle made.key ask) late
+
+-- what was waited for alone, with what is waited for so
+abbrev pub with_awaited : List ℕ → Option Ask → List ℕ
+with_awaited awaited (Some (Calls (Call.Wait (WaitCall.Objects all mode (handle ∷ []))))) = awaited ++ handle ∷ []
+with_awaited awaited ask = awaited
+
+-- the number of the late creation with this key
+abbrev pub number_of : List Made → ℕ → Option ℕ
+number_of late key = option_map (λ made. made.number) (find (λ made. made.key == key) late)
+
+-- the late creation that goes so, if its key was taken: then what it makes another handle of may be closed before, and it is refused
+abbrev pub refused_by : List Made → List ℕ → Option Ask → Option ℕ
+refused_by late awaited (Some (Calls (Call.Wait (WaitCall.Swap gate key mode)))) = if list_any (λ it. it == key) awaited then number_of late key else None
+refused_by late awaited ask = None
 
 -- ---- all lines
 

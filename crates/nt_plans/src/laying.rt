@@ -4,22 +4,22 @@ ghost use Rattle.nt_calls.specs.declared.call.Call as Call;
 ghost use Rattle.nt_calls.specs.declared.call.WaitCall as WaitCall;
 ghost use Rattle.nt_look.specs.Orders.{Calls};
 ghost use Rattle.nt_lanes.specs.Lanes.{asked};
-ghost use Rattle.nt_orders.specs.Gates.{after, after_all, after_beginning, after_if_named, before_line, beginning_of, has_passed, is_new, made_line, may_close_first, none_laid, opened_by, opening, taken_line, takes_if_first, takes_key, taking, wait_for, wait_line, with_line, with_passed};
-ghost use Rattle.nt_orders.specs.Reading.{does_of, item_of, laid_of};
+ghost use Rattle.nt_plans.specs.Gates.{after, after_all, after_beginning, after_if_named, before_line, beginning_of, has_passed, is_new, made_line, may_close_first, none_laid, opened_by, opening, taken_line, takes_if_first, takes_key, taking, wait_for, wait_line, with_line, with_passed};
+ghost use Rattle.nt_plans.specs.Kept.{does_of, item_of, laid_of};
 ghost use Rattle.std.specs.List.{fold};
 ghost use Rattle.std.specs.Option.{option_copied};
 
 use crate::items::{Does, Item, is_handle};
-use crate::lanes::{Line, no_lines, push_line};
+use crate::line::{Line, no_lines, push_line};
 use nt_calls::{Call, WaitCall, WaitMode};
-use nt_explore::{Ask, Plan};
+use nt_lanes::{Ask, Plan};
 use nt_status::{Handle, Handles, INFINITE};
 use nt_wording::put_number;
 use std::alloc::{AllocError, Global};
 
 /// A late creation: its line, its caller, the handle that it gave, that of which it is another one, its gate, and its key.
 #[derive(Clone, Copy)]
-pub(crate) struct Made {
+pub struct Made {
     pub number: u64,
     pub who: u32,
     pub handle: Handle,
@@ -30,14 +30,14 @@ pub(crate) struct Made {
 
 /// A lane has passed a gate: it waited for it, or set it.
 #[derive(Clone, Copy)]
-pub(crate) struct Pass {
+pub struct Pass {
     pub lane: u32,
     pub gate: Handle,
 }
 
 /// The lanes so far.
 #[derive(Drop)]
-pub(crate) struct Laid {
+pub struct Laid {
     pub plan: Plan,
     /// By lane, the lines that the plan's asks stand on.
     pub lines: Vec<Vec<Line>>,

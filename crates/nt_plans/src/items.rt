@@ -2,15 +2,15 @@
 ghost use Rattle.std.specs.Prelude.{◌≡◌, ◌==◌, IfOk, Some};
 ghost use Rattle.std.specs.List.{list_any};
 ghost use Rattle.nt_lanes.specs.Lanes.{asked};
-ghost use Rattle.nt_orders.specs.Gates.{closed_by, closes, is_handle, names};
+ghost use Rattle.nt_plans.specs.Gates.{closed_by, closes, is_handle, names};
+ghost use Rattle.nt_plans.specs.Kept.{Finds, IsFoundOf, does_of, ended_of};
+ghost use Rattle.nt_plans.specs.Lines.{is_among, is_refused, source_of};
 ghost use Rattle.nt_script.specs.Progress.{progress};
-ghost use Rattle.nt_orders.specs.Plans.{is_among, is_refused, source_of};
-ghost use Rattle.nt_orders.specs.Reading.{Finds, IsFoundOf, does_of, ended_of};
 
-use crate::lanes::Line;
+use crate::line::Line;
 use nt_calls::{Act, Call};
-use nt_explore::Ask;
 use nt_grammar::{LineFault, ScriptFault, Statement};
+use nt_lanes::Ask;
 use nt_lines::MAX_LINE;
 use nt_script::Session;
 use nt_status::Handle;
@@ -18,21 +18,21 @@ use std::alloc::{AllocError, Global};
 
 /// Whose creation a line is, and what it makes another handle of.
 #[derive(Clone, Copy)]
-pub(crate) struct Creation {
+pub struct Creation {
     pub who: u32,
     pub source: Option<Handle>,
 }
 
 /// What ended on the lines above: the handles that they close, and the threads that exit there.
 #[derive(Drop)]
-pub(crate) struct Ended {
+pub struct Ended {
     pub closed: Vec<Handle>,
     pub exited: Vec<u32>,
 }
 
 /// What a line does when its lane goes.
 #[derive(Drop)]
-pub(crate) enum Does {
+pub enum Does {
     Asks(Ask),
     /// It is a late creation, which gave this handle, another one of that handle.
     Makes {
@@ -43,7 +43,7 @@ pub(crate) enum Does {
 
 /// A line that goes when its lane does.
 #[derive(Drop)]
-pub(crate) struct Item {
+pub struct Item {
     pub lane: u32,
     pub line: Line,
     pub does: Does,
@@ -70,7 +70,7 @@ pub(crate) fn is_handle(handle: Handle, sought: Option<Handle>) -> bool
 }
 
 /// The handle that is closed so.
-pub(crate) fn closed_by(ask: &Ask) -> Option<Handle>
+pub fn closed_by(ask: &Ask) -> Option<Handle>
     ensures { result ≡ closed_by (asked ask.now) }
 {
     match ask {
@@ -103,14 +103,14 @@ impl Does {
 
 /// Why a line can't be read.
 #[derive(Clone, Copy)]
-pub(crate) enum LaneFault {
+pub enum LaneFault {
     Line(LineFault),
     NoThread,
 }
 
 /// What a line is.
 #[derive(Drop)]
-pub(crate) enum Found {
+pub enum Found {
     /// It is carried out before all calls, and may be a creation.
     Start(Option<Creation>),
     /// It is left out.
@@ -195,7 +195,7 @@ fn found_of(statement: Statement, threads: u32, ended: &Ended) -> Result<Found, 
 }
 
 /// What a line after the `threads` line is, after lines that end this.
-pub(crate) fn find_in(
+pub fn find_in(
     session: &Session,
     alloc: Global,
     ended: &Ended,

@@ -1,10 +1,10 @@
 use Rattle.std.proofs.Common.{◌∙◌, ap, sym, take}
 use Rattle.std.proofs.lemmas.List.Sums.{fold_more}
 use Rattle.std.specs.List.{fold}
-use Rattle.nt_orders.specs.Gates.{Laid, before_line}
-use Rattle.nt_orders.specs.Reading.{item_of, laid_of}
-use Rattle.nt_orders.specs.declared.laying.Made.{Made}
-use Rattle.nt_orders.proofs.laying.Laid.begin_for_each.Goals as goal
+use Rattle.nt_plans.specs.Gates.{Laid, before_line}
+use Rattle.nt_plans.specs.Kept.{item_of, laid_of}
+use Rattle.nt_plans.specs.declared.laying.Made.{Made}
+use Rattle.nt_plans.proofs.laying.Laid.begin_for_each.Goals as goal
 
 pub loop-made-preserved : goal.loop-made-preserved
 loop-made-preserved c =

@@ -1,6 +1,6 @@
 use Rattle.std.proofs.Common.{◌≡◌, ◌≤◌, [], replicate, vec_len, vec_capacity}
-use Rattle.nt_orders.specs.Reading.{texts_of}
-use Rattle.nt_orders.proofs.lanes.no_lines.Given as goal
+use Rattle.nt_plans.specs.Kept.{texts_of}
+use Rattle.nt_plans.proofs.line.no_lines.Given as goal
 
 abbrev pub invariant-loop : goal.invariant-loop
 invariant-loop l = record {

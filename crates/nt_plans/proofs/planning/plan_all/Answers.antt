@@ -1,9 +1,9 @@
 use Rattle.std.proofs.Common.{◌∙◌, ap, map, sym, take}
-use Rattle.nt_orders.specs.Gates.{Item, Planned, planned_all, planned_on, race_of, none_planned}
-use Rattle.nt_orders.specs.Reading.{gates_of, item_of, planned_of}
-use Rattle.nt_orders.specs.declared.items.Item as kept
-use Rattle.nt_orders.proofs.Lines.{item_there, no_race_here, planned_more, race_fault}
-use Rattle.nt_orders.proofs.planning.plan_all.Goals as goal
+use Rattle.nt_plans.specs.Gates.{Item, Planned, none_planned, planned_all, planned_on, race_of}
+use Rattle.nt_plans.specs.Kept.{gates_of, item_of, planned_of}
+use Rattle.nt_plans.specs.declared.items.Item as kept
+use Rattle.nt_plans.proofs.Lines.{item_there, no_race_here, planned_more, race_fault}
+use Rattle.nt_plans.proofs.planning.plan_all.Goals as goal
 
 pub returns-in-Err-clause-fault : goal.returns-in-Err-clause-fault
 returns-in-Err-clause-fault c =

@@ -1,7 +1,7 @@
 use Rattle.std.proofs.Common.{◌≡◌, drop, map, take}
-use Rattle.nt_orders.specs.Gates.{first_race, planned_all, race_of}
-use Rattle.nt_orders.specs.Reading.{gates_of, item_of, planned_of}
-use Rattle.nt_orders.proofs.planning.plan_all.Given as goal
+use Rattle.nt_plans.specs.Gates.{first_race, planned_all, race_of}
+use Rattle.nt_plans.specs.Kept.{gates_of, item_of, planned_of}
+use Rattle.nt_plans.proofs.planning.plan_all.Given as goal
 
 abbrev pub invariant-loop-item : goal.invariant-loop-item
 invariant-loop-item l = record {
