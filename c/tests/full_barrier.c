@@ -1,6 +1,7 @@
 /* A call is a full barrier, as one of Windows is: a thread that writes a word, calls, and then reads another's word, and one that writes
  * that, passes a barrier and reads the first word, do not both read what was before. The caller is the thread that the lock favours, since no other calls. What each
- * call does with the lock is tried by itself, too: the fewer steps a call has, the more would be seen. */
+ * call does with the lock is tried by itself, too: the fewer steps a call has, the more would be seen. (To see it takes two processors, and chance:
+ * lock_steps.c looks for the barrier itself.) */
 #include "../ntwin.c"
 
 #define counted counted_checks /* (ntwin.c has another.) */

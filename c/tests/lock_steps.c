@@ -1,4 +1,5 @@
-/* The dispatcher's lock in pairs (pairs.h), with each of its own instructions tried: beside the thread that it favours nobody waits in vain. */
+/* The dispatcher's lock in pairs (pairs.h), with each of its own instructions tried: beside the thread that it favours nobody waits in vain. And
+ * a call of that thread is a full barrier. */
 #define LEAST_PATIENCE 2
 #define MOST_PATIENCE 16
 #define TURNS_THAT_PAY 8
@@ -63,12 +64,23 @@ static void try_in_vain(void)
     must(!try_lock());
 }
 
+/* ---- A call of the favoured thread is a full barrier, as one of Windows is (full_barrier.c): one of its instructions is, by which it gives the lock
+ * back. (It is looked for: the processor has each store of a thread that stops seen, so that no stop would tell.) */
+
+static void count_barriers_of_call(void)
+{
+    step(take_and_give_for_caller, nothing, LONG_MAX);
+    if (process.has_barriers)
+        IS(stepped.barriers, 1);
+}
+
 int main(void)
 {
     begin_pairs();
     is_of_lock = true;
     stepped.before = become_favoured_first;
     try_pair("a call of the favoured thread", nothing, take_and_give_for_caller, take_and_give, nothing, 20);
+    count_barriers_of_call();
     stepped.before = NULL;
     try_pair("who tries it in vain", favoured_one_has_it, try_in_vain, take_and_give, end_waiter, 10);
     return counted_checks();

@@ -53,6 +53,7 @@ static struct {
     sem_t tells;                           /* one of these, or `left`, has changed */
     sem_t goes, goes_on;                   /* the other call may begin; and the stopped one may go on */
     _Atomic bool has_begun;                /* the other has begun */
+    _Atomic int barriers;                  /* how many of the call's instructions so far are full barriers */
     _Atomic int dozing;                    /* how many threads doze, and will look again */
 } stepped;
 static _Thread_local volatile bool is_stepped;
@@ -209,11 +210,21 @@ UNSANITIZED static bool is_called_outside(const char **stack)
     return true;
 }
 
+/* Whether this instruction is a full barrier: it has the prefix that locks, exchanges with memory, or is mfence. (Prefixes of fs, of a size and of
+ * registers come before.) */
+UNSANITIZED static bool is_full_barrier(const unsigned char *at)
+{
+    while (at[0] == 0x64 || at[0] == 0x66 || (at[0] & 0xF0) == 0x40)
+        at++;
+    return at[0] == 0xF0 || ((at[0] == 0x86 || at[0] == 0x87) && at[1] < 0xC0) || (at[0] == 0x0F && at[1] == 0xAE && at[2] == 0xF0);
+}
+
 /* An instruction of the stepped thread is about to run. Answers whether it stops before that. */
 UNSANITIZED static bool stops_before(const char *at)
 {
     stepped.is_in_system = false;
     last_inside = (const unsigned char *)at;
+    stepped.barriers += is_full_barrier(last_inside);
     return !is_passed_over() && stepped.left-- <= 0;
 }
 
@@ -372,6 +383,7 @@ static bool step(act *call, act *other, long number)
     stepped.call = call, stepped.other = other, stepped.number = number, stepped.left = number;
     stepped.has_begun = stepped.has_ended = stepped.asks = stepped.is_in_system = false;
     stepped.task = 0;
+    stepped.barriers = 0;
     begin_places();
     innermost = returns_to, last_inside = NULL;
     if (sem_init(&stepped.goes, 0, 0) != 0 || sem_init(&stepped.goes_on, 0, 0) != 0 || sem_init(&stepped.tells, 0, 0) != 0)
