@@ -79,16 +79,16 @@ class Race(ValueError):
 
 
 class Late:
-    """A creation after a call or a tick: its line and thread, the handle that it gave, that of which it is another one, its gate and its key."""
+    """A creation after a call or a tick: its line and thread, the handle that it gave, that of which it is another one, and its gate."""
 
     def __init__(self, number, who, handle, source):
-        self.number, self.who, self.handle, self.source, self.gate, self.key = number, who, handle, source, None, None
+        self.number, self.who, self.handle, self.source, self.gate = number, who, handle, source, None
 
 
 class Script:
     """The machine after all creations, wherever they stand, and the lines of each lane: those of the threads, and last the ticks. Each has its number,
-    what is shown of it, and what is carried out. A late creation sets an event, its gate, and what has to come after it waits for that. With that it
-    waits for an event that is set, its key, which nobody can set again: what closes its source takes that first, so the creation is never done then."""
+    what is shown of it, and what is carried out. A late creation sets an event, its gate, and what has to come after it waits for that. Its handle is
+    there from the start, but is let go where the creation is refused: another one of it was to be made, and that was closed, or is about to be."""
 
     def __init__(self, text):
         (_, opening), *lines = lines_of(text)
@@ -102,8 +102,8 @@ class Script:
         for late in self.late:
             late.gate = self.unnamed(named, lambda: self.given("event", True, False))
             self.called[f"object {self.start.handles[late.gate][0]}"] = f"(line {late.number} of t{late.who})"
-        for late in self.late:
-            late.key = self.unnamed(named, self.key)
+        for _ in self.late:
+            self.unnamed(named, lambda: self.given("event", True, False))
         for at, (number, line, late) in enumerate(read):
             if late and any(late.handle in self.named_by(other) for _, other, it in read[:at] if not it):
                 raise Race(number)
@@ -119,12 +119,6 @@ class Script:
             self.start.call(0, "close", made)
         return made
 
-    def key(self):
-        event = self.given("event", False, True)
-        made = self.given("dup", event, 1048576)
-        self.start.call(0, "close", event)
-        return made
-
     def named_by(self, line):
         """The handles that a call names."""
         first, *words = line.split()
@@ -135,6 +129,8 @@ class Script:
         found, closed, exited = [], set(), set()
         for number, line in lines:
             first, keyword, *words = line.split()
+            if first in exited:
+                continue
             if first == "tick" or keyword not in CREATES:
                 found.append((number, line, None))
                 handle = self.names.handle(words[0]) if keyword == "close" else None
@@ -142,7 +138,7 @@ class Script:
                 exited |= {first} if keyword == "exit" else set()
                 continue
             source = self.names.handle(words[1]) if keyword == "dup" else None
-            if source in closed or first in exited:
+            if source in closed:
                 continue
             answer = self.names.carry_out(self.start, line)[0]
             if found and answer.startswith("handle"):
@@ -161,9 +157,33 @@ class Script:
                 self.passed.add((lane, it.gate))
         for it in above if rest[:1] == ["close"] else []:
             if it.source in named and (lane, it.gate) not in self.passed:
-                self.lanes[lane].append((number, f"t{lane} closes the source of line {it.number}", f"t{lane} any 0 plain {it.key}"))
-        self.lanes[lane].append((number, line, f"t{lane} swap {late.gate} {late.key} inf plain" if late else line))
+                self.lanes[lane].append((number, f"t{lane} closes the source of line {it.number}", it))
+        self.lanes[lane].append((number, line, late or line))
         self.passed |= {(lane, late.gate)} if late else set()
+
+    def carry_out(self, machine, shown, done):
+        """Has a line go. Answers what is told, and the waits that ended."""
+        if not isinstance(done, Late):
+            return self.names.carry_out(machine, done)
+        if " closes the source of " in shown:
+            self.refuse(machine, done)
+            return "ok", []
+        is_lost = done.source is not None and machine.handles[done.source] is None
+        answer, ended = machine.call(done.who, "set", done.gate)
+        return "error 6" if is_lost or machine.handles[done.handle] is None else answer, ended
+
+    def refuse(self, machine, late):
+        """Lets go what the late creation was to make, unless it was made, and what others were to make of that."""
+        if not machine.objects[machine.handles[late.gate][0]].set:
+            machine.handles[late.handle] = None
+            for it in (it for it in self.late if it.source == late.handle):
+                self.refuse(machine, it)
+
+    def asked(self, shown, done):
+        """What a line asks, without its thread."""
+        if isinstance(done, Late):
+            return " closes " in shown, done.number
+        return self.names.call(*done.split()[1:2], done.split()[2:])
 
     def titled(self, word):
         """The word, and what the last comment that tells it a name calls it."""
@@ -239,7 +259,7 @@ def handles_in(keyword, *words):
 
 def twins_of(script):
     """For each thread the lower ones that have the same calls to make, where no call names the handle of one of the two."""
-    calls = [[script.names.call(*line.split()[1:2], line.split()[2:]) for *_, line in lane] for lane in script.lanes[:-1]]
+    calls = [[script.asked(*it[1:]) for it in lane] for lane in script.lanes[:-1]]
     named = {it for lane in calls for call in lane for it in handles_in(*call)}
     return [[low for low in range(who) if calls[low] == calls[who] and not {low, who} & named] for who in range(script.threads)]
 
@@ -293,15 +313,6 @@ class Found:
                 self.go(here, lane, met)
         self.hanging = [it for it in self.points if hangs(it.machine, self.callers(it))]
         self.find_losses()
-        self.races = [race for race in map(self.race_before, self.hanging[:1]) if race]
-
-    def race_before(self, point):
-        """The number of the first late creation on the way to the point whose source may be closed before."""
-        gone = [self.script.lanes[lane][at] for lane, at in point.steps()]
-        taken = {key: at for at, (*_, done) in reversed([*enumerate(gone)]) for key in done.partition(" any 0 plain ")[2].split()}
-        keys = {f"swap {it.gate} {it.key} inf plain": (it.number, str(it.key)) for it in self.script.late}
-        steps = [(at, *keys[words]) for at, (*_, done) in enumerate(gone) if (words := done.partition(" ")[2]) in keys]
-        return next((number for at, number, key in steps if taken.get(key, at) < at), None)
 
     def callers(self, point):
         more = {lane for lane in range(self.script.threads) if point.at[lane] < len(self.script.lanes[lane])}
@@ -311,7 +322,7 @@ class Found:
         if here.at[lane] == len(self.script.lanes[lane]) or lane in here.machine.waits or self.has_lower(here, lane):
             return
         machine = here.machine.copy()
-        self.script.names.carry_out(machine, self.script.lanes[lane][here.at[lane]][2])
+        self.script.carry_out(machine, *self.script.lanes[lane][here.at[lane]][1:])
         next_one = Point(machine, (*here.at[:lane], here.at[lane] + 1, *here.at[lane + 1:]), here, lane)
         found = met.setdefault((next_one.at, machine.key()), next_one)
         if found is next_one:
@@ -358,8 +369,7 @@ class Found:
         machine, at, rows = self.script.start.copy(), [0] * len(self.script.lanes), []
         for lane in point.order():
             number, line, done = self.script.lanes[lane][at[lane]]
-            answer, grants = self.script.names.carry_out(machine, done)
-            answer = answer if done == line or answer == "pending" or " waits for " in line else "ok"
+            answer, grants = self.script.carry_out(machine, line, done)
             at[lane] += 1
             ends = "".join(f"; t{who}'s wait ends: {status_name(status)}" for who, status in grants)
             rows.append((str(number), line, answer_name(answer) + ends))

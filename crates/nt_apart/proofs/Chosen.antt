@@ -12,7 +12,7 @@ use Rattle.nt_calls.specs.declared.call.Call.{Call}
 use Rattle.nt_calls.specs.declared.call.Act.{Act}
 use Rattle.nt_calls.specs.declared.call.WaitCall.{WaitCall}
 use Rattle.nt_calls.specs.State.{State, object_at, pends}
-use Rattle.nt_look.specs.Orders.{Ask, Calls, Passes, Plan, Point, Goes, Order, Hangs, IsLost}
+use Rattle.nt_look.specs.Orders.{Ask, Calls, Passes, Tries, Plan, Point, Goes, Order, Hangs, IsLost}
 use Rattle.nt_apart.specs.Fewer.{AreEnough, OrderOf, IsRenaming, AreMoved, IsRenamed, IsPointRenamed, IsLowestChosen, StandAlike, exchanged, is_own, left, renamed_act, renamed_apc, renamed_ask, renamed_object, renamed_opened, renamed_wait, LossesComeBackwardsByChosen, LosesOne, ComesAsSoon, LossesAreMetAsSoon, AreLowestWithin, LowestComeAsSoon}
 use Rattle.nt_apart.proofs.Renaming.{length_map}
 use Rattle.nt_apart.proofs.RenamedObjects.{kept_by}
@@ -196,6 +196,7 @@ ask_twice r back (Calls (Call.Wait (WaitCall.Swap h object mode))) =
     ∙ ap (λ (k : ℕ). Calls (Call.Wait (WaitCall.Swap h k mode))) (back object)
 ask_twice r back (Calls Call.Exit) = refl
 ask_twice r back (Passes moment) = refl
+ask_twice r back (Tries acts) = ap (λ (l : List Act). Tries l) (map_twice (renamed_act r) (act_twice r back) acts)
 
 wait_twice : (r : ℕ → ℕ) → ((x : ℕ) → r (r x) ≡ x) → (w : Wait) → renamed_wait r (renamed_wait r w) ≡ w
 wait_twice r back w = ap (λ (hs : List ℕ). record w { objects = hs }) (map_twice r back w.objects)

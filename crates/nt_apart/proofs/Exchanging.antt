@@ -4,6 +4,7 @@ use Rattle.std.specs.Prelude.{slice_index_or, ◌==◌, if◌then◌else◌, opt
 use Rattle.std.specs.List.{list_any}
 use Rattle.std.specs.FinMap as fin
 use Rattle.std.proofs.lemmas.Bool.{cases_eq, false≢true}
+use Rattle.std.proofs.lemmas.List.Elements.{Contains-append_left, Contains-append_right}
 use Rattle.nt_status.proofs.Lists.{contains_first, contains_later}
 use Rattle.nt_machine.proofs.Listing.{same_yes, same_no}
 use Rattle.nt_objects.specs.declared.object.Object.{Object}
@@ -23,9 +24,9 @@ use Rattle.nt_waits.specs.Waits.{Names}
 use Rattle.nt_objects.specs.Object.{is_thread, is_gone}
 use Rattle.nt_machine.specs.Dispatcher.{Dispatcher, state}
 use Rattle.nt_machine.specs.Lawful.{IsLawful}
-use Rattle.nt_look.specs.Orders.{Ask, Calls, Passes, Plan, Point}
+use Rattle.nt_look.specs.Orders.{Ask, Calls, Passes, Tries, Plan, Point}
 use Rattle.nt_apart.specs.Footprint.{belongs}
-use Rattle.nt_apart.specs.Fewer.{IsRenaming, AreMoved, IsRenamed, renamed_object, renamed_opened, renamed_wait, renamed_apc, renamed_call, left, renamed_ask, IsPointRenamed, is_own, exchanged, handles_of, IsInOrder, IsBare, StandAlike}
+use Rattle.nt_apart.specs.Fewer.{IsRenaming, AreMoved, IsRenamed, renamed_object, renamed_opened, renamed_wait, renamed_apc, renamed_act, renamed_call, left, renamed_ask, IsPointRenamed, is_own, exchanged, handles_of, handles_tried, IsInOrder, IsBare, StandAlike}
 use Rattle.nt_apart.proofs.Renaming.{lt_there, test_member}
 
 -- ---- the renaming
@@ -203,12 +204,21 @@ call_fixed a b (Call.Wait (WaitCall.Swap h object mode)) none =
     ∙ ap (λ (k : ℕ). Call.Wait (WaitCall.Swap h k mode)) (named_first a b object [] (λ k has. none k (contains_later h (object ∷ []) k has)))
 call_fixed a b Call.Exit none = refl
 
+acts_fixed : (a b : ℕ) (acts : List Act) → ((h : ℕ) → Contains (handles_tried acts) h → (h ≢ a) × (h ≢ b)) → map (renamed_act (exchanged a b)) acts ≡ acts
+acts_fixed a b [] none = refl
+acts_fixed a b (act ∷ acts) none =
+    let whole : renamed_call (exchanged a b) (Call.Act act) ≡ Call.Act act = call_fixed a b (Call.Act act) (λ h has. none h (Contains-append_left (handles_of (Call.Act act)) (handles_tried acts) h has)) in
+    let first : renamed_act (exchanged a b) act ≡ act = (let same : Call.Act (renamed_act (exchanged a b) act) ≡ Call.Act act = whole in cc) in
+    ap (λ (x : Act). x ∷ map (renamed_act (exchanged a b)) acts) first
+    ∙ ap (λ (xs : List Act). act ∷ xs) (acts_fixed a b acts (λ h has. none h (Contains-append_right (handles_of (Call.Act act)) (handles_tried acts) h has)))
+
 lines_fixed : (plan : Plan) (p : Point) (a b : ℕ) → StandAlike plan p a b → (lane : ℕ) → map (renamed_ask (exchanged a b)) (left plan p lane) ≡ left plan p lane
 lines_fixed plan p a b alike lane = map_fixed (renamed_ask (exchanged a b)) (left plan p lane) at
   where
     at : (ask : Ask) → Contains (left plan p lane) ask → renamed_ask (exchanged a b) ask ≡ ask
-    at (Calls call) has = ap (λ (c : Call). Calls c) (call_fixed a b call (λ h named. alike.unnamed lane call h has named))
+    at (Calls call) has = ap (λ (c : Call). Calls c) (call_fixed a b call (λ h named. alike.unnamed lane (Calls call) h has named))
     at (Passes moment) has = refl
+    at (Tries acts) has = ap (λ (l : List Act). Tries l) (acts_fixed a b acts (λ h named. alike.unnamed lane (Tries acts) h has named))
 
 -- ---- all together
 

@@ -1,6 +1,6 @@
 -- A search that leaves lanes out, and finds a shortest hang all the same; and threads that stand alike, of which one is enough.
-use Rattle.std.specs.Prelude.{Contains, ◌≡◌, ◌≢◌, ◌==◌, if◌then◌else◌, ◌⊎◌, ◌↔◌, ◌≤◌, ℕ, Bool, true, List, [], ◌∷◌, length, ◌<◌, false, map, drop, slice_index_or, option_map}
-use Rattle.nt_look.specs.Orders.{Plan, Point, Goes, Order, Hangs, IsLost, Ask, Calls, Passes, place, asks}
+use Rattle.std.specs.Prelude.{Contains, ◌≡◌, ◌≢◌, ◌==◌, if◌then◌else◌, ◌⊎◌, ◌↔◌, ◌≤◌, ℕ, Bool, true, List, [], ◌∷◌, length, ◌<◌, false, map, drop, slice_index_or, option_map, ◌++◌}
+use Rattle.nt_look.specs.Orders.{Plan, Point, Goes, Order, Hangs, IsLost, Ask, Calls, Passes, Tries, place, asks}
 use Rattle.std.specs.FinMap.{get}
 use Rattle.std.specs.declared.option.Option.TheVariants.{None, Some}
 use Rattle.std.specs.declared.result.Result.{Result}
@@ -200,6 +200,7 @@ left plan p lane = drop (place p lane) (asks plan lane)
 abbrev pub renamed_ask : (ℕ → ℕ) → Ask → Ask
 renamed_ask r (Calls call) = Calls (renamed_call r call)
 renamed_ask r (Passes moment) = Passes moment
+renamed_ask r (Tries acts) = Tries (map (renamed_act r) acts)
 
 -- the point q is p with its threads renamed: each lane has left there what the renamed lane has left here, renamed
 pub record IsPointRenamed (r : ℕ → ℕ) (plan : Plan) (p q : Point) : Type 0 where
@@ -245,6 +246,17 @@ handles_of (Call.Wait (WaitCall.Objects all mode hs)) = hs
 handles_of (Call.Wait (WaitCall.Swap h object mode)) = h ∷ object ∷ []
 handles_of _ = []
 
+-- the handles that acts name
+abbrev pub handles_tried : List Act → List ℕ
+handles_tried [] = []
+handles_tried (act ∷ acts) = handles_of (Call.Act act) ++ handles_tried acts
+
+-- the handles that are named where a lane is asked this
+abbrev pub handles_asked : Ask → List ℕ
+handles_asked (Calls call) = handles_of call
+handles_asked (Passes moment) = []
+handles_asked (Tries acts) = handles_tried acts
+
 -- what lasts of a state between calls: each thread has its places and its own object, and stands in a queue only where it waits
 pub record IsInOrder (s : State) : Type 0 where
   pub few : s.threads ≤ MAX_HANDLES
@@ -267,7 +279,7 @@ pub record IsBare (s : State) (t : ℕ) : Type 0 where
   pub named : (h : ℕ) (opened : Opened) → opened_at s.handles h ≡ Some opened → opened.object ≡ t → h ≡ t
 
 -- two such threads run, or both have ended; their own handles have the same rights, and so have they to take APCs; they have the same left to do,
--- and no call that any thread has left to make names one of them
+-- and nothing that any thread has left to do names one of them
 pub record StandAlike (plan : Plan) (p : Point) (a b : ℕ) : Type 0 where
   pub in_order : IsInOrder p.state
   pub first : IsBare p.state a
@@ -277,7 +289,7 @@ pub record StandAlike (plan : Plan) (p : Point) (a b : ℕ) : Type 0 where
   pub handing : slice_index_or p.state.handing b false ≡ slice_index_or p.state.handing a false
   pub places : p.state.threads ≤ length p.at
   pub lines : left plan p b ≡ left plan p a
-  pub unnamed : (lane : ℕ) (call : Call) (h : ℕ) → Contains (left plan p lane) (Calls call) → Contains (handles_of call) h → (h ≢ a) × (h ≢ b)
+  pub unnamed : (lane : ℕ) (ask : Ask) (h : ℕ) → Contains (left plan p lane) ask → Contains (handles_asked ask) h → (h ≢ a) × (h ≢ b)
 
 -- to exchange these changes nothing
 abbrev pub ExchangeOfAlike : Type 0

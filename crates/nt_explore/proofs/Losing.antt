@@ -1,14 +1,19 @@
 -- One order leads to one point; and since when a wait was lost.
-use Rattle.std.proofs.Common.{◌≡◌, ◌≢◌, ℕ, Bool, false, List, [], ◌∷◌, refl, sym, ap, ◌∙◌, subst, Some, ◌<◌, ◌≤◌, ◌+◌, ◌*◌, true, ◌++◌, length, arith, Option, None, eqb, ltb, inl, inr, ◌⊎◌, Contains}
-use Rattle.std.specs.Prelude.{Result, Ok, Err, nat_lt, slice_set, if◌then◌else◌, ◌↔◌}
+use Rattle.std.proofs.Common.{◌≡◌, ◌≢◌, ℕ, Bool, false, List, [], ◌∷◌, refl, sym, ap, ◌∙◌, subst, Some, ◌<◌, ◌≤◌, ◌+◌, ◌*◌, true, ◌++◌, ◌-◌, length, drop, take, take_all, get_or, arith, Option, None, eqb, ltb, inl, inr, ◌⊎◌, Contains}
+use Rattle.std.specs.Prelude.{Result, Ok, Err, OnOk, is_ok, is_err, nat_lt, slice_set, if◌then◌else◌, ◌↔◌}
 use Rattle.nt_status.specs.declared.refusal.Refusal.{Refusal}
 use Rattle.nt_status.specs.declared.refusal.Refusal.TheVariants.{AccessDenied, InvalidHandle, Memory, ThreadGone, InvalidParameter, NotOwner, TooManyPosts, ThreadWaiting, ThreadEnded, UnknownThread, RecursionLimit, MomentBack, JournalFull, HandleLimit}
+use Rattle.nt_calls.specs.declared.call.Act.{Act}
+use Rattle.nt_calls.specs.declared.call.Call.{Call}
 use Rattle.nt_calls.specs.declared.call.Reply.{Reply}
+use Rattle.nt_calls.specs.declared.call.Grant.{Grant}
 use Rattle.nt_calls.specs.State.{State, pends}
+use Rattle.nt_calls.specs.Steps.{Called}
 use Rattle.nt_calls.specs.Runs as runs
+use Rattle.nt_calls.specs.Runs.{Turn}
 use Rattle.nt_laws.specs.Laws.{wants_memory, AsksCall, question}
 use Rattle.nt_laws.proofs.OneWay.{turn_same}
-use Rattle.nt_look.specs.Orders.{Ask, Calls, Passes, Plan, Point, IsAskMade, Goes, IsLost}
+use Rattle.nt_look.specs.Orders.{Ask, Calls, Passes, Tries, Plan, Point, AreTried, IsAskMade, Goes, IsLost}
 use Rattle.nt_explore.specs.Walk.{Arrives, edge, Rises, Leads}
 use Rattle.std.proofs.lemmas.Bool.{false≢true}
 use Rattle.std.proofs.lemmas.Bool.Decides.{nat_tests}
@@ -40,11 +45,57 @@ calm (Err MomentBack) other = refl
 calm (Err JournalFull) other = refl
 calm (Err HandleLimit) other = refl
 
+-- an act more was tried, which was carried out; and then the rest
+pub tried_more : {E : Type 0} (old mid new : State) (t : ℕ) (acts : List Act) (act : Act) (answer : Result Reply Refusal) (grants : List Grant) (r : Result Unit E)
+    → 1 ≤ length acts → act ≡ get_or acts 0 act → (answer ≢ Err Memory) → false ≡ is_err answer → Called old t (Call.Act act) answer grants mid
+    → OnOk r (AreTried mid t (take (length acts - 1) (drop 1 acts)) new) → OnOk r (AreTried old t acts new)
+tried_more old mid new t [] act answer grants r some is enough held called rest = absurd (omega (arith, some))
+tried_more old mid new t (x ∷ acts) act (Err cause) grants r some is enough held called rest = absurd (false≢true held)
+tried_more old mid new t (x ∷ acts) act (Ok reply) grants (Err e) some is enough held called rest = tt
+tried_more old mid new t (x ∷ acts) act (Ok reply) grants (Ok unit) some is enough held called rest = (
+  Ok reply,
+  grants,
+  mid,
+  enough,
+  subst (λ (a : Act). Called old t (Call.Act a) (Ok reply) grants mid) is called,
+  inl (refl, subst (λ (l : List Act). AreTried mid t l new) (take_all (length (x ∷ acts) - 1) acts (omega arith)) rest),
+)
+
+-- or it was refused
+pub tried_last : (old new : State) (t : ℕ) (acts : List Act) (act : Act) (answer : Result Reply Refusal) (grants : List Grant)
+    → 1 ≤ length acts → act ≡ get_or acts 0 act → (answer ≢ Err Memory) → true ≡ is_err answer → Called old t (Call.Act act) answer grants new
+    → AreTried old t acts new
+tried_last old new t [] act answer grants some is enough failed called = absurd (omega (arith, some))
+tried_last old new t (x ∷ acts) act (Ok reply) grants some is enough failed called = absurd (false≢true (sym failed))
+tried_last old new t (x ∷ acts) act (Err cause) grants some is enough failed called =
+    (Err cause, grants, new, enough, subst (λ (a : Act). Called old t (Call.Act a) (Err cause) grants new) is called, inr (refl, refl))
+
+-- a call leads to one answer and one state, but where it finds no memory
+call_same : (old a b : State) (lane : ℕ) (call : Call) (r q : Result Reply Refusal) (gs hs : List Grant) → (r ≢ Err Memory) → (q ≢ Err Memory)
+    → Called old lane call r gs a → Called old lane call q hs b → (r ≡ q) × (a ≡ b)
+call_same old a b lane call r q gs hs one other x y =
+    let alike : question (runs.Calls lane call r gs) ≡ question (runs.Calls lane call q hs) = ap (λ (w : Bool). AsksCall lane call w) (calm r one ∙ sym (calm q other)) in
+    let same = turn_same old a b (runs.Calls lane call r gs) (runs.Calls lane call q hs) alike x y in
+    let turn : runs.Calls lane call r gs ≡ runs.Calls lane call q hs = same.0 in
+    ((cc), same.1)
+
+tried_same : (old : State) (lane : ℕ) (acts : List Act) (a b : State) → AreTried old lane acts a → AreTried old lane acts b → a ≡ b
+tried_same old lane [] a b x y = x ∙ sym y
+tried_same old lane (act ∷ acts) a b (r, gs, c, one, x, on) (q, hs, d, other, y, on') = go (λ more more'. tried_same d lane acts a b more more') on on'
+  where
+    same : (r ≡ q) × (c ≡ d)
+    same = call_same old c d lane (Call.Act act) r q gs hs one other x y
+
+    go : (AreTried d lane acts a → AreTried d lane acts b → a ≡ b) → ((is_ok r ≡ true) × AreTried c lane acts a) ⊎ ((is_ok r ≡ false) × (a ≡ c)) → ((is_ok q ≡ true) × AreTried d lane acts b) ⊎ ((is_ok q ≡ false) × (b ≡ d)) → a ≡ b
+    go onward (inl (ok, more)) (inl (ok', more')) = onward (subst (λ (s : State). AreTried s lane acts a) same.1 more) more'
+    go onward (inl (ok, more)) (inr (refused, is)) = absurd (false≢true (sym refused ∙ (sym (ap is_ok same.0) ∙ ok)))
+    go onward (inr (refused, is)) (inl (ok, more)) = absurd (false≢true (sym refused ∙ (ap is_ok same.0 ∙ ok)))
+    go onward (inr (refused, is)) (inr (refused', is')) = is ∙ (same.1 ∙ sym is')
+
 made_same : (old : State) (lane : ℕ) (ask : Ask) (a b : State) → IsAskMade old lane ask a → IsAskMade old lane ask b → a ≡ b
-made_same old lane (Calls call) a b x y =
-    let alike : question (runs.Calls lane call x.0 x.1) ≡ question (runs.Calls lane call y.0 y.1) = ap (λ (w : Bool). AsksCall lane call w) (calm x.0 x.2 ∙ sym (calm y.0 y.2)) in
-    (turn_same old a b (runs.Calls lane call x.0 x.1) (runs.Calls lane call y.0 y.1) alike x.3 y.3).1
+made_same old lane (Calls call) a b x y = (call_same old a b lane call x.0 y.0 x.1 y.1 x.2 y.2 x.3 y.3).1
 made_same old lane (Passes moment) a b x y = (turn_same old a b (runs.Ticks lane moment x.0 x.1) (runs.Ticks lane moment y.0 y.1) refl x.2 y.2).1
+made_same old lane (Tries acts) a b x y = tried_same old lane acts a b x y
 
 some_same : (a b : Ask) → Some a ≡ Some b → a ≡ b
 some_same a b e = (cc)

@@ -3,11 +3,11 @@ ghost use Rattle.std.specs.Prelude.{◌≡◌, ◌≢◌, ◌<◌, length, Err, 
 ghost use Rattle.nt_status.specs.declared.refusal.Refusal.TheVariants.{Memory};
 ghost use Rattle.nt_machine.specs.Dispatcher.{state};
 ghost use Rattle.nt_calls.specs.State.{pends};
-ghost use Rattle.nt_look.specs.Orders.{Calls, Passes, IsAskMade, asks};
+ghost use Rattle.nt_look.specs.Orders.{Calls, Passes, AreTried, IsAskMade, asks};
 ghost use Rattle.nt_lanes.specs.Lanes.{asked, point_of};
 ghost use Rattle.nt_explore.specs.Walk.{GoesOn, Went};
 
-use nt_calls::{Call, Reply};
+use nt_calls::{Act, Call, Reply};
 use nt_core::Core;
 use nt_lanes::{Ask, Plan, Position};
 use nt_status::{Moment, Refusal};
@@ -42,6 +42,26 @@ fn tick(core: &mut Core, thread: u32, moment: Moment)
     let _answer = core.tick(moment);
 }
 
+/// Makes these acts, one after another, until one is refused.
+fn try_all(core: &mut Core, thread: u32, acts: &[Act]) -> Result<(), AllocError>
+    ensures made { OnOk result (AreTried (state core.old) thread acts.now (state core.new)) }
+    ensures threads { (state core.new).threads ≡ (state core.old).threads }
+{
+    match acts {
+        [act, rest @ ..] => {
+            let answer = core.call(thread, &Call::Act(*act));
+            if is_without_memory(&answer) {
+                return Err(AllocError);
+            }
+            if answer.is_err() {
+                return Ok(());
+            }
+            try_all(core, thread, rest)
+        }
+        _ => Ok(()),
+    }
+}
+
 /// Makes what is asked of the thread.
 fn make(core: &mut Core, thread: u32, ask: &Ask) -> Result<(), AllocError>
     ensures made { OnOk result (IsAskMade (state core.old) thread (asked ask.now) (state core.new)) }
@@ -53,6 +73,7 @@ fn make(core: &mut Core, thread: u32, ask: &Ask) -> Result<(), AllocError>
             tick(core, thread, *moment);
             Ok(())
         }
+        Ask::Tries(acts) => try_all(core, thread, acts),
     }
 }
 

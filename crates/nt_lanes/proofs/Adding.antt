@@ -5,15 +5,17 @@ use Rattle.std.specs.List.{list_any}
 use Rattle.std.proofs.lemmas.Bool.{false≢true}
 use Rattle.std.proofs.lemmas.Bool.Decides.{nat_tests}
 use Rattle.nt_status.proofs.Lists.{contains_none, contains_first, contains_later, contains_cases}
+use Rattle.nt_calls.specs.declared.call.Act.{Act}
 use Rattle.nt_calls.specs.declared.call.Call.{Call}
-use Rattle.nt_apart.specs.Fewer.{handles_of}
+use Rattle.nt_apart.specs.Fewer.{handles_asked, handles_of, handles_tried}
 use Rattle.nt_apart.proofs.Renaming.{test_member}
 use Rattle.std.specs.declared.alloc.Global.{Global}
 use Rattle.std.proofs.lemmas.List.{map-set, map-append, get_or-map, get_or_append_left, get_or_push, length_push}
 use Rattle.std.proofs.lemmas.Option.{slice_get-map}
+use Rattle.std.proofs.lemmas.List.Folds.{list_any-append}
 use Rattle.std.proofs.Math.Seq.{map-set_same}
 use Rattle.nt_look.specs.Orders as orders
-use Rattle.nt_look.specs.Orders.{asks, Calls, Passes, Plan}
+use Rattle.nt_look.specs.Orders.{asks, Plan}
 use Rattle.nt_lanes.specs.declared.plan.Ask.{Ask}
 use Rattle.nt_lanes.specs.Lanes.{plan_of, asked, IsUnnamed, AreKinds, IsKind, AreTwins, kind_of, names_handle, plan_names}
 use Rattle.nt_lanes.proofs.Bare.{or_first, or_second}
@@ -87,9 +89,9 @@ exactly P false is = (λ e. absurd (false≢true e), λ p. absurd (is p))
 
 -- ---- which handles are named
 
-in_line : (xs : List Ask) (t : ℕ) → list_any (λ (ask : Ask). names_handle t (asked ask)) xs ≡ false → (call : Call) (h : ℕ) → Contains (map asked xs) (Calls call) → Contains (handles_of call) h → h ≢ t
-in_line [] t none call h has named = absurd (contains_none (Calls call) has)
-in_line (x ∷ xs) t none call h has named = go (λ rest' later. in_line xs t rest' call h later named) (contains_cases (asked x) (map asked xs) (Calls call) has)
+in_line : (xs : List Ask) (t : ℕ) → list_any (λ (ask : Ask). names_handle t (asked ask)) xs ≡ false → (one : orders.Ask) (h : ℕ) → Contains (map asked xs) one → Contains (handles_asked one) h → h ≢ t
+in_line [] t none one h has named = absurd (contains_none one has)
+in_line (x ∷ xs) t none one h has named = go (λ rest' later. in_line xs t rest' one h later named) (contains_cases (asked x) (map asked xs) one has)
   where
     here : Bool
     here = names_handle t (asked x)
@@ -97,16 +99,16 @@ in_line (x ∷ xs) t none call h has named = go (λ rest' later. in_line xs t re
     rest : Bool
     rest = list_any (λ (ask : Ask). names_handle t (asked ask)) xs
 
-    go : (list_any (λ (ask : Ask). names_handle t (asked ask)) xs ≡ false → Contains (map asked xs) (Calls call) → h ≢ t) → (asked x ≡ Calls call) ⊎ Contains (map asked xs) (Calls call) → h ≢ t
+    go : (list_any (λ (ask : Ask). names_handle t (asked ask)) xs ≡ false → Contains (map asked xs) one → h ≢ t) → (asked x ≡ one) ⊎ Contains (map asked xs) one → h ≢ t
     go onward (inl same) = λ is.
-        let no : names_handle t (Calls call) ≡ false = ap (names_handle t) (sym same) ∙ or_first here rest none in
-        false≢true (sym no ∙ test_member (handles_of call) t (subst (λ (z : ℕ). Contains (handles_of call) z) is named))
+        let no : names_handle t one ≡ false = ap (names_handle t) (sym same) ∙ or_first here rest none in
+        false≢true (sym no ∙ test_member (handles_asked one) t (subst (λ (z : ℕ). Contains (handles_asked one) z) is named))
     go onward (inr later) = onward (or_second here rest none) later
 
 pub none_named : (lanes : List (Vec Ask Global)) (t : ℕ) → list_any (λ (lane : Vec Ask Global). list_any (λ (ask : Ask). names_handle t (asked ask)) lane.items) lanes ≡ false → IsUnnamed (plan_of lanes) t
-none_named [] t none lane call h has named = absurd (contains_none (Calls call) has)
-none_named (l ∷ lanes) t none zero call h has named = in_line l.items t (or_first (list_any (λ (ask : Ask). names_handle t (asked ask)) l.items) (list_any (λ (lane : Vec Ask Global). list_any (λ (ask : Ask). names_handle t (asked ask)) lane.items) lanes) none) call h has named
-none_named (l ∷ lanes) t none (suc lane) call h has named = none_named lanes t (or_second (list_any (λ (ask : Ask). names_handle t (asked ask)) l.items) (list_any (λ (lane : Vec Ask Global). list_any (λ (ask : Ask). names_handle t (asked ask)) lane.items) lanes) none) lane call h has named
+none_named [] t none lane one h has named = absurd (contains_none one has)
+none_named (l ∷ lanes) t none zero one h has named = in_line l.items t (or_first (list_any (λ (ask : Ask). names_handle t (asked ask)) l.items) (list_any (λ (lane : Vec Ask Global). list_any (λ (ask : Ask). names_handle t (asked ask)) lane.items) lanes) none) one h has named
+none_named (l ∷ lanes) t none (suc lane) one h has named = none_named lanes t (or_second (list_any (λ (ask : Ask). names_handle t (asked ask)) l.items) (list_any (λ (lane : Vec Ask Global). list_any (λ (ask : Ask). names_handle t (asked ask)) lane.items) lanes) none) lane one h has named
 
 neither : (a b : Bool) → a ≡ false → b ≡ false → (a || b) ≡ false
 neither a b first second = ap (λ (c : Bool). c || b) first ∙ second
@@ -119,26 +121,32 @@ found_named (y ∷ xs) x e = go (y == x) refl (found_named xs x)
     go true is later = contains_first y xs x (grind (arith, nat_tests, is))
     go false other later = contains_later y xs x (later (sym (ap (λ (b : Bool). b || list_any (λ (z : ℕ). z == x) xs) other) ∙ e))
 
-ask_unnamed : (t : ℕ) (a : orders.Ask) → ((call : Call) (h : ℕ) → a ≡ Calls call → Contains (handles_of call) h → h ≢ t) → names_handle t a ≡ false
-ask_unnamed t (Calls call) un = go (names_handle t (Calls call)) refl
+ask_unnamed : (t : ℕ) (a : orders.Ask) → ((h : ℕ) → Contains (handles_asked a) h → h ≢ t) → names_handle t a ≡ false
+ask_unnamed t a un = go (names_handle t a) refl
   where
-    go : (b : Bool) → names_handle t (Calls call) ≡ b → names_handle t (Calls call) ≡ false
+    go : (b : Bool) → names_handle t a ≡ b → names_handle t a ≡ false
     go false e = e
-    go true e = absurd (un call t refl (found_named (handles_of call) t e) refl)
-ask_unnamed t (Passes moment) un = refl
+    go true e = absurd (un t (found_named (handles_asked a) t e) refl)
 
-line_unnamed : (xs : List Ask) (t : ℕ) → ((call : Call) (h : ℕ) → Contains (map asked xs) (Calls call) → Contains (handles_of call) h → h ≢ t) → list_any (λ (ask : Ask). names_handle t (asked ask)) xs ≡ false
+line_unnamed : (xs : List Ask) (t : ℕ) → ((one : orders.Ask) (h : ℕ) → Contains (map asked xs) one → Contains (handles_asked one) h → h ≢ t) → list_any (λ (ask : Ask). names_handle t (asked ask)) xs ≡ false
 line_unnamed [] t un = refl
 line_unnamed (x ∷ xs) t un =
     neither (names_handle t (asked x)) (list_any (λ (ask : Ask). names_handle t (asked ask)) xs)
-    (ask_unnamed t (asked x) (λ call h is. un call h (contains_first (asked x) (map asked xs) (Calls call) is)))
-    (line_unnamed xs t (λ call h has. un call h (contains_later (asked x) (map asked xs) (Calls call) has)))
+    (ask_unnamed t (asked x) (λ h. un (asked x) h (contains_first (asked x) (map asked xs) (asked x) refl)))
+    (line_unnamed xs t (λ one h has. un one h (contains_later (asked x) (map asked xs) one has)))
 
 any_mapped : (t : ℕ) (xs : List Ask) → list_any (names_handle t) (map asked xs) ≡ list_any (λ (ask : Ask). names_handle t (asked ask)) xs
 any_mapped t [] = refl
 any_mapped t (x ∷ xs) = ap (λ (b : Bool). names_handle t (asked x) || b) (any_mapped t xs)
 
--- whether a call of the plan names the handle, in the lists of lanes
+-- what acts name, act by act
+pub any_tried : (t : ℕ) (acts : List Act) → list_any (λ (act : Act). list_any (λ (y : ℕ). y == t) (handles_of (Call.Act act))) acts ≡ list_any (λ (y : ℕ). y == t) (handles_tried acts)
+any_tried t [] = refl
+any_tried t (act ∷ acts) =
+    ap (λ (b : Bool). list_any (λ (y : ℕ). y == t) (handles_of (Call.Act act)) || b) (any_tried t acts)
+    ∙ sym (list_any-append (λ (y : ℕ). y == t) (handles_of (Call.Act act)) (handles_tried acts))
+
+-- whether something in the plan names the handle, in the lists of lanes
 pub any_lane : (lanes : List (Vec Ask Global)) (t : ℕ)
     → plan_names (plan_of lanes) t ≡ list_any (λ (lane : Vec Ask Global). list_any (λ (ask : Ask). names_handle t (asked ask)) lane.items) lanes
 any_lane [] t = refl

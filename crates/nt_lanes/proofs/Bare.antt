@@ -18,7 +18,7 @@ use Rattle.nt_apc.specs.Queues.{apc_queue_of, has_from}
 use Rattle.nt_calls.specs.State.{State, object_at, pends, wait_names}
 use Rattle.nt_machine.specs.Dispatcher.{Dispatcher, state}
 use Rattle.nt_machine.specs.Lawful.{IsLawful}
-use Rattle.nt_look.specs.Orders.{Ask, Calls, Plan, Point, asks, place}
+use Rattle.nt_look.specs.Orders.{Ask, Plan, Point, asks, place}
 use Rattle.nt_apart.specs.Footprint.{belongs, has_apc_from}
 use Rattle.nt_apart.specs.Fewer.{renamed_opened, exchanged, is_own, IsInOrder, IsBare, StandAlike, IsLowestChosen}
 use Rattle.nt_apart.proofs.Exchanging.{lawful_in_order}
@@ -285,7 +285,7 @@ stand_alike d places plan kinds lower lane lawful wide are less other bare like 
   handing = like_hands (slice_index_or d.handing lower false) (slice_index_or d.handing lane false) hands;
   places = let enough = lanes_enough plan d.threads kinds lane are other in omega (arith, enough, wide);
   lines = ap (λ (xs : List Ask). drop (place p lane) xs) twins.same ∙ ap (λ (n : ℕ). drop n (asks plan lower)) (sym at);
-  unnamed = λ on call h has named. let there = dropped (place p on) (asks plan on) (Calls call) has in (twins.first on call h there named, twins.second on call h there named);
+  unnamed = λ on ask h has named. let there = dropped (place p on) (asks plan on) ask has in (twins.first on ask h there named, twins.second on ask h there named);
 }
   where
     p : Point

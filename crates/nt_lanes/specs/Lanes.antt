@@ -6,13 +6,12 @@ use Rattle.nt_objects.specs.Object.{has_ended}
 use Rattle.nt_tables.specs.declared.handles.Opened.{Opened}
 use Rattle.nt_tables.specs.Handles.{opened_at, names, count_named}
 use Rattle.nt_apc.specs.Queues.{apc_queue_of}
-use Rattle.nt_calls.specs.declared.call.Call.{Call}
 use Rattle.nt_calls.specs.State.{State, object_at, pends}
 use Rattle.nt_machine.specs.Dispatcher.{Dispatcher, state}
 use Rattle.nt_look.specs.Orders as orders
-use Rattle.nt_look.specs.Orders.{Calls, Passes, Plan, Point, Goes, asks, place}
+use Rattle.nt_look.specs.Orders.{Calls, Passes, Tries, Plan, Point, Goes, asks, place}
 use Rattle.nt_apart.specs.Footprint.{belongs}
-use Rattle.nt_apart.specs.Fewer.{handles_of}
+use Rattle.nt_apart.specs.Fewer.{handles_asked}
 use Rattle.nt_lanes.specs.declared.plan.Ask.{Ask}
 use Rattle.nt_lanes.specs.declared.plan.Ask.TheVariants as kept
 use Rattle.nt_lanes.specs.declared.position.Position.{Position}
@@ -23,6 +22,7 @@ use Rattle.nt_lanes.specs.declared.position.Position.{Position}
 abbrev pub asked : Ask → orders.Ask
 asked (kept.Call call) = Calls call
 asked (kept.Tick moment) = Passes moment
+asked (kept.Tries acts) = Tries acts.items
 
 -- what the lists of lanes have to do
 abbrev pub plan_of : List (Vec Ask Global) → Plan
@@ -45,20 +45,19 @@ start_of plan core = beginning plan (state core)
 
 -- ---- of a plan
 
--- no call of the plan names the thread's handle
+-- nothing in the plan names the thread's handle
 abbrev pub IsUnnamed : Plan → ℕ → Type 0
-IsUnnamed plan t = (lane : ℕ) (call : Call) (h : ℕ) → Contains (asks plan lane) (Calls call) → Contains (handles_of call) h → h ≢ t
+IsUnnamed plan t = (lane : ℕ) (ask : orders.Ask) (h : ℕ) → Contains (asks plan lane) ask → Contains (handles_asked ask) h → h ≢ t
 
 -- what is asked names this handle
 abbrev pub names_handle : ℕ → orders.Ask → Bool
-names_handle h (Calls call) = list_any (λ named. named == h) (handles_of call)
-names_handle h (Passes moment) = false
+names_handle h ask = list_any (λ named. named == h) (handles_asked ask)
 
--- a call of the plan names this handle
+-- something in the plan names this handle
 abbrev pub plan_names : Plan → ℕ → Bool
 plan_names plan h = list_any (λ asks. list_any (names_handle h) asks) plan
 
--- two lanes have the same to do, and no call names the handle of one of their threads
+-- two lanes have the same to do, and nothing in the plan names the handle of one of their threads
 pub record AreTwins (plan : Plan) (a b : ℕ) : Type 0 where
   pub same : asks plan b ≡ asks plan a
   pub first : IsUnnamed plan a

@@ -3,7 +3,7 @@ ghost use Rattle.std.specs.Prelude.{true, false, ◌≡◌, ◌==◌, ◌↔◌,
 ghost use Rattle.std.specs.Option.{option_copied, option_map};
 ghost use Rattle.nt_look.specs.Orders.{asks};
 ghost use Rattle.std.specs.List.{list_any};
-ghost use Rattle.nt_apart.specs.Fewer.{handles_of};
+ghost use Rattle.nt_apart.specs.Fewer.{handles_of, handles_tried};
 ghost use Rattle.nt_calls.specs.declared.call.Call.{Call};
 ghost use Rattle.nt_lanes.specs.Lanes.{asked, IsUnnamed, names_handle, plan_names, plan_of};
 
@@ -20,11 +20,13 @@ pub enum Ask {
     Call(Call),
     /// All moments up to this one pass, counted in 100 ns.
     Tick(Moment),
+    /// Its thread tries these acts, one after another, until one is refused.
+    Tries(Vec<Act>),
 }
 
 /// Whether the act names this handle.
-fn act_names(act: &Act, handle: Handle) -> bool
-    ensures { result ≡ list_any (λ named. named == handle) (handles_of (Call.Act act.now)) }
+fn act_names(act: Act, handle: Handle) -> bool
+    ensures { result ≡ list_any (λ named. named == handle) (handles_of (Call.Act act)) }
 {
     match act {
         Act::SetEvent(named)
@@ -32,14 +34,14 @@ fn act_names(act: &Act, handle: Handle) -> bool
         | Act::PulseEvent(named)
         | Act::ReleaseMutex(named)
         | Act::CancelTimer(named)
-        | Act::Close(named) => *named == handle,
+        | Act::Close(named) => named == handle,
         Act::ReleaseSemaphore {
             semaphore: named,
             ..
-        } => *named == handle,
-        Act::SetTimer { timer: named, .. } => *named == handle,
-        Act::QueueApc { thread: named, .. } => *named == handle,
-        Act::Duplicate { handle: named, .. } => *named == handle,
+        } => named == handle,
+        Act::SetTimer { timer: named, .. } => named == handle,
+        Act::QueueApc { thread: named, .. } => named == handle,
+        Act::Duplicate { handle: named, .. } => named == handle,
         _ => false,
     }
 }
@@ -58,16 +60,31 @@ fn wait_names(wait: &WaitCall, handle: Handle) -> bool
     }
 }
 
+/// Whether one of the acts names this handle.
+fn one_names(acts: &[Act], handle: Handle) -> bool
+    ensures { result ≡ list_any (λ act. list_any (λ named. named == handle) (handles_of (Call.Act act))) acts.now }
+{
+    acts.iter().any(|act| act_names(*act, handle))
+}
+
+/// Whether they name this handle.
+fn acts_name(acts: &[Act], handle: Handle) -> bool
+    ensures { result ≡ list_any (λ named. named == handle) (handles_tried acts.now) }
+{
+    one_names(acts, handle)
+}
+
 impl Ask {
-    /// Whether it is a call that names this handle.
+    /// Whether it names this handle.
     pub fn names(&self, handle: Handle) -> bool
         ensures { result ≡ names_handle handle (asked self.now) }
     {
         match self {
-            Ask::Call(Call::Act(act)) => act_names(act, handle),
+            Ask::Call(Call::Act(act)) => act_names(*act, handle),
             Ask::Call(Call::Wait(wait)) => wait_names(wait, handle),
             Ask::Call(Call::Exit) => false,
             Ask::Tick(_) => false,
+            Ask::Tries(acts) => acts_name(acts, handle),
         }
     }
 }
@@ -163,7 +180,7 @@ impl Plan {
         are_same(&self.lanes[b as usize], &self.lanes[a as usize])
     }
 
-    /// Whether a call names this handle.
+    /// Whether something in it names this handle.
     pub fn names(&self, handle: Handle) -> bool
         ensures names { result ≡ plan_names self.now handle }
         ensures unnamed { (result ≡ false) ↔ IsUnnamed self.now handle }

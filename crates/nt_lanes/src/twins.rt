@@ -5,7 +5,7 @@ ghost use Rattle.nt_machine.specs.Dispatcher.{state};
 ghost use Rattle.nt_lanes.specs.Lanes.{asked, names_handle, AreTwins, IsKind, AreKinds, IsUnnamed};
 
 use crate::plan::{Ask, Plan};
-use nt_calls::{Call, WaitCall};
+use nt_calls::{Act, Call, WaitCall};
 use nt_core::Core;
 use nt_status::{Handle, Handles};
 use std::alloc::{AllocError, Global};
@@ -69,6 +69,19 @@ fn is_same_call(a: &Call, b: &Call) -> bool
     }
 }
 
+/// Whether both are the same acts.
+fn are_same_acts(acts: &[Act], others: &[Act]) -> bool
+    ensures { (result ≡ true) ↔ (acts.now ≡ others.now) }
+{
+    match acts {
+        [act, rest @ ..] => match others {
+            [other, others @ ..] => *act == *other && are_same_acts(rest, others),
+            _ => false,
+        },
+        _ => others.is_empty(),
+    }
+}
+
 /// Whether both ask for the same.
 fn is_same_ask(a: &Ask, b: &Ask) -> bool
     ensures { (result ≡ true) ↔ (asked a.now ≡ asked b.now) }
@@ -80,6 +93,10 @@ fn is_same_ask(a: &Ask, b: &Ask) -> bool
         },
         Ask::Tick(moment) => match b {
             Ask::Tick(other) => *moment == *other,
+            _ => false,
+        },
+        Ask::Tries(acts) => match b {
+            Ask::Tries(others) => are_same_acts(acts, others),
             _ => false,
         },
     }
@@ -107,14 +124,14 @@ fn one_names(asks: &[Ask], handle: Handle) -> bool
     asks.iter().any(|ask| ask.names(handle))
 }
 
-/// Whether a call names the thread's own handle.
+/// Whether something in the plan names the thread's own handle.
 fn is_named(plan: &Plan, thread: u32) -> bool
     ensures { (result ≡ false) ↔ IsUnnamed plan.now thread }
 {
     plan.names(Handle::new(thread))
 }
 
-/// Whether both have the same to do, and no call names the handle of one of the two.
+/// Whether both have the same to do, and nothing in the plan names the handle of one of the two.
 fn is_twin(plan: &Plan, lower: u32, lane: u32) -> bool
     requires first { lower < length plan.now }
     requires second { lane < length plan.now }

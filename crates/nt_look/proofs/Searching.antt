@@ -6,6 +6,8 @@ use Rattle.std.proofs.lemmas.Bool.{false≢true}
 use Rattle.std.proofs.lemmas.Bool.Decides.{nat_tests}
 use Rattle.std.proofs.lemmas.List.{length-set}
 use Rattle.std.proofs.lemmas.Option.{slice_get_within}
+use Rattle.nt_calls.specs.declared.call.Act.{Act}
+use Rattle.nt_calls.specs.declared.call.Call.{Call}
 use Rattle.nt_calls.specs.State.{State, pends}
 use Rattle.nt_calls.specs.Runs as runs
 use Rattle.nt_calls.specs.Runs.{Turn, Turns, IsTurn}
@@ -13,7 +15,7 @@ use Rattle.nt_machine.specs.Dispatcher.{Dispatcher, state}
 use Rattle.nt_machine.specs.Lawful.{IsLawful}
 use Rattle.nt_look.specs.Hangs.{IsKnot}
 use Rattle.nt_look.specs.Hanging.{AreBy}
-use Rattle.nt_look.specs.Orders.{Ask, Calls, Passes, Plan, Point, place, asks, has_more, goes_on, IsAskMade, Goes, Order, Hangs, IsLost, IsClosed, steps}
+use Rattle.nt_look.specs.Orders.{Ask, Calls, Passes, Tries, Plan, Point, place, asks, has_more, goes_on, AreTried, IsAskMade, Goes, Order, Hangs, IsLost, IsClosed, steps}
 use Rattle.nt_look.proofs.Standstill.{stuck_turns}
 use Rattle.nt_look.proofs.Knots.{knots_stay}
 
@@ -51,6 +53,16 @@ pub record AsTurns (plan : Plan) (a p q : Point) : Type 0 where
   pub run : Turns p.state turns q.state
   pub by : AreBy (goes_on plan a) turns
 
+-- acts that are tried are turns of their thread, before others
+tried_turns : (callers : ℕ → Bool) (lane : ℕ) → callers lane ≡ true → (acts : List Act) (old mid end : State) → AreTried old lane acts mid
+    → (rest : List Turn) → Turns mid rest end → AreBy callers rest → (turns : List Turn) × Turns old turns end × AreBy callers turns
+tried_turns callers lane may [] old mid end tried rest run by = (rest, subst (λ (s : State). Turns s rest end) tried run, by)
+tried_turns callers lane may (act ∷ acts) old mid end (result, grants, next, enough, called, inl (ok, more)) rest run by =
+    let it = tried_turns callers lane may acts next mid end more rest run by in
+    (runs.Calls lane (Call.Act act) result grants ∷ it.0, (next, called, it.1), (may, it.2))
+tried_turns callers lane may (act ∷ acts) old mid end (result, grants, next, enough, called, inr (refused, same)) rest run by =
+    (runs.Calls lane (Call.Act act) result grants ∷ rest, (next, called, subst (λ (s : State). Turns s rest end) same run), (may, by))
+
 pub order_turns : (plan : Plan) (lanes : List ℕ) (a p q : Point) → ((t : ℕ) → place a t ≤ place p t) → Order plan p lanes q → AsTurns plan a p q
 order_turns plan [] a p q later order = record { turns = []; run = ap (λ (x : Point). x.state) order; by = tt }
 order_turns plan (lane ∷ lanes) a p q later order = go goes.ask goes.next goes.made (order_turns plan lanes a mid q (λ t. between t) order.2)
@@ -64,20 +76,26 @@ order_turns plan (lane ∷ lanes) a p q later order = go goes.ask goes.next goes
     between : (t : ℕ) → place a t ≤ place mid t
     between t = let first = later t in let second = goes_later plan p lane mid goes t in omega (arith, first, second)
 
-    go : (ask : Ask) → slice_get (asks plan lane) (place p lane) ≡ Some ask → IsAskMade p.state lane ask mid.state → AsTurns plan a mid q → AsTurns plan a p q
-    go (Calls call) next made rest =
-        let inside = slice_get_within (asks plan lane) (place p lane) (Calls call) next in
+    may : (ask : Ask) → slice_get (asks plan lane) (place p lane) ≡ Some ask → goes_on plan a lane ≡ true
+    may ask next =
+        let inside = slice_get_within (asks plan lane) (place p lane) ask next in
         let more : has_more plan p lane ≡ true = grind (arith, nat_tests, inside) in
-        record {
-          turns = runs.Calls lane call made.0 made.1 ∷ rest.turns;
-          run = (mid.state, made.3, rest.run);
-          by = (or_first (has_more plan a lane) (pends a.state lane) (more_before plan a p lane (later lane) more), rest.by);
-        }
+        or_first (has_more plan a lane) (pends a.state lane) (more_before plan a p lane (later lane) more)
+
+    go : (ask : Ask) → slice_get (asks plan lane) (place p lane) ≡ Some ask → IsAskMade p.state lane ask mid.state → AsTurns plan a mid q → AsTurns plan a p q
+    go (Calls call) next made rest = record {
+      turns = runs.Calls lane call made.0 made.1 ∷ rest.turns;
+      run = (mid.state, made.3, rest.run);
+      by = (may (Calls call) next, rest.by);
+    }
     go (Passes moment) next made rest = record {
       turns = runs.Ticks lane moment made.0 made.1 ∷ rest.turns;
       run = (mid.state, made.2, rest.run);
       by = (made.3, rest.by);
     }
+    go (Tries acts) next made rest =
+        let it = tried_turns (goes_on plan a) lane (may (Tries acts) next) acts p.state mid.state q.state made rest.turns rest.run rest.by in
+        record { turns = it.0; run = it.1; by = it.2 }
 
 -- ---- a hang is for good
 

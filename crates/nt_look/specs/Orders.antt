@@ -1,8 +1,9 @@
 -- Every order in which threads may make the calls that each of them has to make, one after another.
-use Rattle.std.specs.Prelude.{◌≡◌, ◌≢◌, ◌≤◌, ◌<◌, ◌⊎◌, ◌+◌, ◌↔◌, Contains, ℕ, Bool, true, false, ◌||◌, nat_lt, List, [], ◌∷◌, length, slice_get, slice_index_or, slice_set, Some, Result, Err}
+use Rattle.std.specs.Prelude.{◌≡◌, ◌≢◌, ◌≤◌, ◌<◌, ◌⊎◌, ◌+◌, ◌↔◌, Contains, ℕ, Bool, true, false, ◌||◌, nat_lt, List, [], ◌∷◌, length, slice_get, slice_index_or, slice_set, Some, Result, Err, is_ok}
 use Rattle.nt_status.specs.declared.limits.TheConstants.{MAX_MOMENT}
 use Rattle.nt_status.specs.declared.refusal.Refusal.{Refusal}
 use Rattle.nt_status.specs.declared.refusal.Refusal.TheVariants.{Memory}
+use Rattle.nt_calls.specs.declared.call.Act.{Act}
 use Rattle.nt_calls.specs.declared.call.Call.{Call}
 use Rattle.nt_calls.specs.declared.call.Reply.{Reply}
 use Rattle.nt_calls.specs.declared.call.Grant.{Grant}
@@ -13,10 +14,11 @@ use Rattle.nt_machine.specs.Dispatcher.{Dispatcher, state}
 use Rattle.nt_machine.specs.Lawful.{IsLawful}
 use Rattle.nt_look.specs.Hangs.{IsStuck, IsKnot}
 
--- what a lane does next: its thread makes a call, or moments pass
+-- what a lane does next: its thread makes a call; or moments pass; or the thread tries acts, one after another, until one is refused
 pub data Ask : Type 0 where
   Calls : (call : Call) → Ask
   Passes : (moment : ℕ) → Ask
+  Tries : (acts : List Act) → Ask
 
 -- for each thread what it is to call, in order; and after the threads' lanes one for the ticks
 abbrev pub Plan : Type 0
@@ -41,10 +43,18 @@ has_more plan p lane = nat_lt (place p lane) (length (asks plan lane))
 abbrev pub goes_on : Plan → Point → ℕ → Bool
 goes_on plan p t = has_more plan p t || pends p.state t
 
+-- thread t made these acts, one after another, up to the first that was refused; memory was refused to none
+abbrev pub AreTried : State → ℕ → List Act → State → Type 0
+AreTried old t [] new = new ≡ old
+AreTried old t (act ∷ acts) new =
+    (result : Result Reply Refusal) × (grants : List Grant) × (mid : State) × (result ≢ Err Memory) × Called old t (Call.Act act) result grants mid
+    × (((is_ok result ≡ true) × AreTried mid t acts new) ⊎ ((is_ok result ≡ false) × (new ≡ mid)))
+
 -- what was asked was made; that memory is refused is no order of the plan, nor that a moment beyond the greatest passes
 abbrev pub IsAskMade : State → ℕ → Ask → State → Type 0
 IsAskMade old t (Calls call) new = (result : Result Reply Refusal) × (grants : List Grant) × (result ≢ Err Memory) × Called old t call result grants new
 IsAskMade old t (Passes moment) new = (result : Result Reply Refusal) × (grants : List Grant) × Ticked old moment result grants new × (moment ≤ MAX_MOMENT)
+IsAskMade old t (Tries acts) new = AreTried old t acts new
 
 -- the lane does what comes next in it; a thread that waits makes no call
 pub record Goes (plan : Plan) (old : Point) (lane : ℕ) (new : Point) : Type 0 where

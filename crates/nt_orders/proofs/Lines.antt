@@ -1,17 +1,11 @@
 -- Lines as they are read, each in its lane.
-use Rattle.std.proofs.Common.{◌≡◌, ℕ, ◌<◌, List, [], ◌∷◌, length, get_or, sym, ap, subst, ◌∙◌, ◌+◌, ◌≤◌, Option, None, Some, refl, arith, inl, inr}
-use Rattle.std.specs.Prelude.{Vec, Result, Ok, Err, IfOk, IfErr}
-use Rattle.std.specs.declared.alloc.Global.{Global}
-use Rattle.std.proofs.lemmas.List.{get_or-map}
-use Rattle.nt_plans.specs.declared.line.Line.{Line}
-use Rattle.nt_plans.proofs.Lines.{lane_text}
-use Rattle.nt_orders.specs.Plans.{IsLaidOut, IsPlanOf, IsRace, IsUnreadable, Read, Reads, ReadsAll, Stops, unread}
-use Rattle.nt_orders.specs.Reading.{IsLateFault, IsPlanFault, IsRaceOf, IsScriptOf, ReadSoFar, at_line, lanes_of}
-use Rattle.nt_plans.specs.Gates.{Gates, Item, Planned, lanes_with, planned_all, race_of}
-use Rattle.nt_plans.specs.Kept.{IsLaneFault, line_bytes, texts_of}
-use Rattle.nt_plans.specs.Lines.{AreGates}
+use Rattle.std.proofs.Common.{◌≡◌, ℕ, ◌<◌, List, [], ◌∷◌, length, sym, subst, ◌+◌, ◌≤◌, Option, None, Some, refl, arith, inl, inr}
+use Rattle.std.specs.Prelude.{Result, Ok, Err, IfOk, IfErr}
+use Rattle.nt_orders.specs.Plans.{IsLaidOut, IsPlanOf, IsUnreadable, Read, Reads, ReadsAll, Stops, unread}
+use Rattle.nt_orders.specs.Reading.{IsLateFault, IsPlanFault, IsScriptOf, ReadSoFar, at_line, lanes_of}
+use Rattle.nt_plans.specs.Gates.{race_of}
+use Rattle.nt_plans.specs.Kept.{IsLaneFault}
 use Rattle.nt_status.specs.declared.limits.TheConstants.{MAX_THREADS}
-use Rattle.nt_calls.specs.State.{State}
 use Rattle.nt_machine.specs.Dispatcher.{state}
 use Rattle.nt_lines.specs.Lines.{lines_of}
 use Rattle.nt_script.specs.Progress.{AreCounted, Progress}
@@ -22,23 +16,6 @@ use Rattle.nt_orders.specs.Ending.{IsFirstFault}
 use Rattle.nt_grammar.specs.declared.fault.LineFault.TheVariants as line
 use Rattle.nt_plans.specs.declared.items.LaneFault.TheVariants as lane
 use Rattle.nt_orders.specs.declared.fault.OrdersFault.TheVariants as orders
-
--- ---- lines in their lanes
-
--- a line of a lane as it stands
-pub bytes_are : (lines : List (Vec Line Global)) (lane place : ℕ) (own : Vec Line Global) (line : Line) → lane < length lines → own ≡ get_or lines lane own → place < length own.items → line ≡ get_or own.items place line
-    → line.bytes.items ≡ get_or (get_or (texts_of lines) lane []) place []
-unfolding lane_text
-bytes_are lines lane place own line below is within it =
-    let texts : get_or (texts_of lines) lane [] ≡ lane_text own = get_or-map lane_text lines lane own [] below ∙ ap lane_text (sym is) in
-    let text : get_or (lane_text own) place [] ≡ line.bytes.items = get_or-map line_bytes own.items place line [] within ∙ ap line_bytes (sym it) in
-    sym (ap (λ (t : List (List ℕ)). get_or t place []) texts ∙ text)
-
--- the same of the lane's lines in a list, and of the line's bytes
-pub bytes_there : (lines : List (Vec Line Global)) (lane place : ℕ) (own : Vec Line Global) (items : List Line) (line : Line) (bytes : List ℕ) → lane < length lines → own ≡ get_or lines lane own → items ≡ own.items → place < length items
-    → line ≡ get_or items place line → bytes ≡ line.bytes.items → bytes ≡ get_or (get_or (texts_of lines) lane []) place []
-bytes_there lines lane place own items line bytes below is same within it read =
-    read ∙ bytes_are lines lane place own line below is (subst (λ (l : List Line). place < length l) same within) (subst (λ (l : List Line). line ≡ get_or l place line) same it)
 
 -- a line that can't be read, with its number
 unreadable : (now : Option Progress) (number : ℕ) (bytes : List ℕ) (fault : LaneFault) → IsLaneFault now bytes fault → IsUnreadable now number bytes (at_line number fault)
@@ -87,41 +64,16 @@ all_read input (byte ∷ rest) count now s none = absurd (omega (arith, none))
 
 -- ---- the script
 
--- ---- lanes
-
--- the lanes of lines whose gates were made
-pub laid_out : (start : State) (items : List Item) (front : List ℕ) (gates : Gates) (s : State) (threads : ℕ) (all : Planned) → AreGates start items gates s
-    → threads ≡ start.threads → race_of threads gates items ≡ None → all ≡ planned_all threads gates items → IsLaidOut start items front (lanes_with all front) s
-laid_out start items front gates s threads all made same apart is = record {
-  gates = gates;
-  made = made;
-  apart = ap (λ (n : ℕ). race_of n gates items) (sym same) ∙ apart;
-  planned = ap (λ (p : Planned). lanes_with p front) (is ∙ ap (λ (n : ℕ). planned_all n gates items) same);
-}
-
--- or one of these lines is a race
-pub race_laid_out : (start : State) (items : List Item) (gates : Gates) (s : State) (threads line : ℕ) → AreGates start items gates s → threads ≡ start.threads
-    → race_of threads gates items ≡ Some line → IsRace start items line
-race_laid_out start items gates s threads line made same first =
-    record { gates = gates; s = s; made = made; first = ap (λ (n : ℕ). race_of n gates items) (sym same) ∙ first }
-
 -- a script that is laid out, or why it is not
 pub script_if_ok : (read : Read) (now : Progress) (result : Result Script OrdersFault) → read.seen.now ≡ Some now
     → IfOk result (λ script. IsLaidOut now.state read.items read.front (lanes_of script) (state script.session.core)) → IfOk result (IsScriptOf read)
 script_if_ok read now (Ok script) is laid = record { now = now; is = is; laid = laid }
 script_if_ok read now (Err fault) is laid = tt
 
-late_if_err : (read : Read) (now : Progress) (number : ℕ) (fault : OrdersFault) → read.seen.now ≡ Some now → IsPlanFault (IsRace now.state read.items) fault
-    → IsPlanFault (IsRaceOf read) fault
-late_if_err read now number (orders.Race line) is race = record { now = now; is = is; first = race }
-late_if_err read now number orders.Memory is race = tt
-late_if_err read now number (orders.NoThread line) is race = race
-late_if_err read now number (orders.Run fault) is race = race
-
-pub race_if_err : (read : Read) (now : Progress) (number : ℕ) (result : Result Script OrdersFault) → read.seen.now ≡ Some now
-    → IfErr result (IsPlanFault (IsRace now.state read.items)) → IfErr result (IsLateFault number read)
-race_if_err read now number (Ok script) is race = tt
-race_if_err read now number (Err fault) is race = inr (late_if_err read now number fault is race)
+pub race_if_err : (read : Read) (number : ℕ) (result : Result Script OrdersFault) → IfErr result (IsPlanFault (λ line. race_of read.items ≡ Some line))
+    → IfErr result (IsLateFault number read)
+race_if_err read number (Ok script) race = tt
+race_if_err read number (Err fault) race = inr race
 
 -- what was read is its plan
 is_plan : (input : List ℕ) (read : Read) (script : Script) → ReadsAll 1 unread (lines_of input) read → IsScriptOf read script
@@ -151,7 +103,7 @@ first_fault input orders.Memory stops = tt
 late_fault : (input : List ℕ) (count : ℕ) (now : Read) (fault : OrdersFault) → ((fault : OrdersFault) → Stops (count + 1) now [] fault → Stops 1 unread (lines_of input) fault)
     → ReadsAll 1 unread (lines_of input) now → IsLateFault (count + 1) now fault → IsFirstFault input fault
 late_fault input count now fault stops reads (inl (none, is)) = first_fault input fault (stops fault (none, is))
-late_fault input count now (orders.Race line) stops reads (inr race) = inl (record { read = now; now = race.now; reads = reads; is = race.is; first = race.first })
+late_fault input count now (orders.Race line) stops reads (inr race) = record { read = now; reads = reads; first = race }
 late_fault input count now orders.Memory stops reads (inr memory) = tt
 late_fault input count now (orders.NoThread line) stops reads (inr none) = absurd none
 late_fault input count now (orders.Run fault) stops reads (inr none) = absurd none

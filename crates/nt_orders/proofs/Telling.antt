@@ -1,6 +1,6 @@
 -- What is told: how far a search is, whose depth comes of the counts that its watcher learns; and why there is none.
 use Rattle.std.proofs.Common.{◌≡◌, ◌≢◌, ◌<◌, ◌≤◌, ◌+◌, ◌^◌, ℕ, zero, suc, Bool, true, false, length, refl, sym, ap, ◌∙◌, subst, arith, inl, inr, ◌⊎◌, ltb, List, if◌then◌else◌}
-use Rattle.std.specs.Prelude.{◌==◌, Result, Ok, Err, IfErr, IfOk, None, OnErr, Some, option_map}
+use Rattle.std.specs.Prelude.{◌==◌, Result, Ok, Err, IfErr, IfOk, OnErr, option_map}
 use Rattle.std.proofs.lemmas.Bool.Decides.{nat_tests}
 use Rattle.nt_calls.specs.State.{State}
 use Rattle.nt_devices.specs.Device.{Writing, one_more, Says}
@@ -11,9 +11,8 @@ use Rattle.nt_explore.specs.declared.search.Explored.{Explored}
 use Rattle.nt_explore.proofs.Ways.{begins_wide}
 use Rattle.nt_explore.proofs.Walks.{deeper, goes_wide, start_low}
 use Rattle.nt_explore.specs.Search.{TellsVerdict}
-use Rattle.nt_orders.specs.Ending.{EndsEarly, IsCutOff, IsOrdersOutcome, IsSearched, TellsOrdersFault, order_of, refused_of, verdict_code}
+use Rattle.nt_orders.specs.Ending.{EndsEarly, IsCutOff, IsFirstFault, IsOrdersOutcome, IsSearched, TellsOrdersFault, order_of, verdict_code}
 use Rattle.nt_orders.specs.Plans.{IsPlanOf}
-use Rattle.nt_orders.specs.Reading.{IsPlanFault}
 use Rattle.nt_plans.specs.Gates.{Lanes}
 use Rattle.nt_orders.specs.declared.report.Findings.{Findings}
 use Rattle.nt_orders.specs.declared.fault.OrdersFault.{OrdersFault}
@@ -164,25 +163,21 @@ pub cut_at_end : (most : ℕ) (lanes : Lanes) (s : State) (sink sink' : Writing)
 cut_at_end most lanes s sink sink' told (met, looked, search, course) =
     (met, looked, record { kinds = search.kinds; alike = λ _. search.alike; point = search.point; turns = search.turns; left = search.ends.left; few = search.ends.few }, course)
 
--- what a search comes to that ended: a report, or a late creation is refused in the order that hangs, or memory was
+-- what a search comes to that ended: a report, or memory was refused
 pub outcome_of : (most : ℕ) (input : List ℕ) (lanes : Lanes) (s : State) (sink sink' : Writing) (told : Explored) → IsPlanOf input lanes s
     → TellsVerdict lanes.plan (beginning lanes.plan s) told.verdict → IsSearched most lanes s sink sink' told → (r : Result Findings OrdersFault)
     → IfOk r (λ found. found.report.code ≡ verdict_code told.verdict) → IfOk r (λ found. option_map (λ text. text.items) found.order ≡ order_of lanes told.verdict)
-    → IfOk r (λ found. refused_of lanes told.verdict ≡ None) → IfErr r (IsPlanFault (λ line. refused_of lanes told.verdict ≡ Some line))
-    → IsOrdersOutcome most input sink sink' r
-outcome_of most input lanes s sink sink' told plan verdict searched (Ok found) code order none fault = (lanes, s, plan, (told, verdict, code, order, none, searched))
-outcome_of most input lanes s sink sink' told plan verdict searched (Err (orders.Race line)) code order none fault =
-    (inr (lanes, s, told, plan, verdict, fault), inr (lanes, s, plan, cut_at_end most lanes s sink sink' told searched))
-outcome_of most input lanes s sink sink' told plan verdict searched (Err orders.Memory) code order none fault =
+    → IfErr r (λ fault. fault ≡ orders.Memory) → IsOrdersOutcome most input sink sink' r
+outcome_of most input lanes s sink sink' told plan verdict searched (Ok found) code order fault = (lanes, s, plan, (told, verdict, code, order, searched))
+outcome_of most input lanes s sink sink' told plan verdict searched (Err cause) code order fault =
+    subst (λ (it : OrdersFault). IsFirstFault input it × EndsEarly most input it sink sink') (sym fault)
     (tt, inr (lanes, s, plan, cut_at_end most lanes s sink sink' told searched))
-outcome_of most input lanes s sink sink' told plan verdict searched (Err (orders.NoThread line)) code order none fault = absurd fault
-outcome_of most input lanes s sink sink' told plan verdict searched (Err (orders.Run it)) code order none fault = absurd fault
 
 -- nothing was told of a search where there was none
 pub told_none : (most : ℕ) (input : List ℕ) (fault : OrdersFault) (sink : Writing) → EndsEarly most input fault sink sink
 told_none most input (orders.Run fault) sink = refl
 told_none most input (orders.NoThread line) sink = refl
-told_none most input (orders.Race line) sink = inl refl
+told_none most input (orders.Race line) sink = refl
 told_none most input orders.Memory sink = inl refl
 
 pub told_fault : (fault : OrdersFault) (line : List ℕ) (errors errors' : Writing) (status : ℕ) → line ≡ order_message fault → Says errors errors' line → status ≡ order_status fault

@@ -14,7 +14,7 @@ use Rattle.nt_hangs.specs.Ending.{SaysMemory, Shows}
 use Rattle.nt_hangs.specs.Watching.{before_zero}
 use Rattle.nt_orders.specs.Texts.{order_message, order_status}
 use Rattle.nt_look.specs.Orders.{steps}
-use Rattle.nt_orders.specs.Plans.{IsPlanOf, IsRaceIn, Stops, order_text, refused_in, unread}
+use Rattle.nt_orders.specs.Plans.{IsPlanOf, IsRaceIn, Stops, order_text, unread}
 use Rattle.nt_plans.specs.Gates.{Lanes}
 use Rattle.nt_orders.specs.Progress.{TellsCourse}
 use Rattle.nt_orders.specs.declared.fault.OrdersFault.{OrdersFault}
@@ -33,12 +33,6 @@ order_of lanes (verdict.Hangs order loss) = Some (order_text lanes order.items)
 order_of lanes verdict.None = None
 order_of lanes (verdict.Met level) = None
 
--- the first late creation that is refused in the order that hangs
-abbrev pub refused_of : Lanes → OrderVerdict → Option ℕ
-refused_of lanes (verdict.Hangs order loss) = refused_in lanes order.items
-refused_of lanes verdict.None = None
-refused_of lanes (verdict.Met level) = None
-
 -- All orders of the plan from this state were searched, with so many states at the most. How far that was is told of each look, with the depth of the
 -- state that was looked at.
 abbrev pub IsSearched : (most : ℕ) → Lanes → State → (progress progress' : Writing) → Explored → Type 0
@@ -53,26 +47,19 @@ IsCutOff most lanes s progress progress' =
     × TellsCourse (λ i. steps (search.point i).at) met looked progress progress'
 
 -- The exit status is that of the verdict on all orders of the plan from this state to which a search came, with so many states at the most: 4 is the status
--- only where it met more. The script is the order that hangs, and no late creation is refused in it.
+-- only where it met more. The script is the order that hangs.
 abbrev pub PlanIsJudged : (most : ℕ) → Lanes → State → (progress progress' : Writing) → Findings → Type 0
 PlanIsJudged most lanes s progress progress' found =
     (told : Explored) × TellsVerdict lanes.plan (beginning lanes.plan s) told.verdict × (found.report.code ≡ verdict_code told.verdict)
     × (option_map (λ text. text.items) found.order ≡ order_of lanes told.verdict)
-    × (refused_of lanes told.verdict ≡ None)
     × IsSearched most lanes s progress progress' told
-
--- A search of the script in these bytes came to an order in which this late creation is the first that is refused.
-abbrev pub IsRefusedIn : List ℕ → (line : ℕ) → Type 0
-IsRefusedIn input line =
-    (lanes : Lanes) × (s : State) × (told : Explored) × IsPlanOf input lanes s × TellsVerdict lanes.plan (beginning lanes.plan s) told.verdict
-    × (refused_of lanes told.verdict ≡ Some line)
 
 -- This is the script's first fault: a line can't be read, or there is no `threads` line; or all are read, and a line is another thing in another order. Or
 -- memory was refused, and to no line.
 abbrev pub IsFirstFault : List ℕ → OrdersFault → Type 0
 IsFirstFault input (orders.Run fault) = Stops 1 unread (lines_of input) (orders.Run fault)
 IsFirstFault input (orders.NoThread line) = Stops 1 unread (lines_of input) (orders.NoThread line)
-IsFirstFault input (orders.Race line) = IsRaceIn input line ⊎ IsRefusedIn input line
+IsFirstFault input (orders.Race line) = IsRaceIn input line
 IsFirstFault input orders.Memory = Unit {0}
 
 -- There is no search of the script to tell of, or this is told of one.
@@ -80,11 +67,11 @@ abbrev pub TellsIfSearched : (most : ℕ) → List ℕ → (progress progress' :
 TellsIfSearched most input progress progress' =
     (progress' ≡ progress) ⊎ ((lanes : Lanes) × (s : State) × IsPlanOf input lanes s × IsCutOff most lanes s progress progress')
 
--- Where a line can't be read there is no search to tell of. There may be one where a line is another thing in another order, or memory was refused.
+-- Where the script has a fault there is no search to tell of. There may be one where memory was refused.
 abbrev pub EndsEarly : (most : ℕ) → List ℕ → OrdersFault → (progress progress' : Writing) → Type 0
 EndsEarly most input (orders.Run fault) progress progress' = progress' ≡ progress
 EndsEarly most input (orders.NoThread line) progress progress' = progress' ≡ progress
-EndsEarly most input (orders.Race line) progress progress' = TellsIfSearched most input progress progress'
+EndsEarly most input (orders.Race line) progress progress' = progress' ≡ progress
 EndsEarly most input orders.Memory progress progress' = TellsIfSearched most input progress progress'
 
 -- What an exploration comes to: a report on the lanes of the script; or the script has this first fault, or memory was refused.

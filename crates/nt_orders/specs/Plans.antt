@@ -1,7 +1,6 @@
 -- A script's lines as they are read: what is made before all calls, and which lines go when their lanes do; and then as a plan.
 use Rattle.std.specs.Prelude.{◌≡◌, ◌⊎◌, ℕ, ◌+◌, ◌++◌, Bool, false, List, [], ◌∷◌, length, slice_get, slice_set, slice_index_or, replicate, Option, None, Some, is_some, if◌then◌else◌}
 use Rattle.std.specs.List.{fold}
-use Rattle.std.specs.Option.{option_or}
 use Rattle.nt_calls.specs.State.{State}
 use Rattle.nt_calls.specs.declared.call.Call.{Call}
 use Rattle.nt_tables.specs.Handles.{opened_at}
@@ -12,18 +11,14 @@ use Rattle.nt_grammar.specs.Lines.{FaultIn}
 use Rattle.nt_grammar.specs.Scope.{handle_in}
 use Rattle.nt_grammar.specs.declared.fault.ScriptFault.TheVariants.{ThreadsExpected}
 use Rattle.nt_script.specs.declared.fault.RunFault.TheVariants as run
-use Rattle.nt_plans.specs.Gates.{refused_by, with_awaited}
+use Rattle.nt_plans.specs.Gates.{close_lines, lost_by, tries_of, whole_line}
 use Rattle.nt_plans.specs.Lines.{AreGates, Ended, IsLineThat, IsOfLane, IsOfNobody, IsOfStart, is_left_out}
 use Rattle.nt_hangs.specs.Watching.{Seen, Sees, names_of, unseen}
-use Rattle.nt_plans.specs.Gates.{Gate, Gates, Item, Key, Lanes, MakesUnnamed, Texts, closed_by, is_late, planned, race_of}
+use Rattle.nt_plans.specs.Gates.{Gates, Item, Lanes, Texts, closed_by, planned, race_of}
 use Rattle.nt_plans.specs.Gates as gates
 use Rattle.nt_orders.specs.declared.fault.OrdersFault.{OrdersFault}
 use Rattle.nt_orders.specs.declared.fault.OrdersFault.TheVariants as orders
 use Rattle.nt_plans.specs.declared.items.Creation.{Creation}
-
--- a line as it stands, with an LF
-abbrev pub whole_line : List ℕ → List ℕ
-whole_line bytes = bytes ++ 10 ∷ []
 
 -- ---- all lines
 
@@ -106,15 +101,8 @@ ReadsAll number old (bytes ∷ lines) new = (mid : Read) × Reads number bytes o
 pub record IsLaidOut (start : State) (items : List Item) (front : List ℕ) (lanes : Lanes) (s : State) : Type 0 where
   pub gates : Gates
   pub made : AreGates start items gates s
-  pub apart : race_of start.threads gates items ≡ None
+  pub apart : race_of items ≡ None
   pub planned : lanes ≡ planned start.threads gates front items
-
--- This is the first line that gives a number which a line above it names.
-pub record IsRace (start : State) (items : List Item) (line : ℕ) : Type 0 where
-  pub gates : Gates
-  pub s : State
-  pub made : AreGates start items gates s
-  pub first : race_of start.threads gates items ≡ Some line
 
 -- The script in these bytes is these lanes, from this state.
 pub record IsPlanOf (input : List ℕ) (lanes : Lanes) (s : State) : Type 0 where
@@ -124,22 +112,19 @@ pub record IsPlanOf (input : List ℕ) (lanes : Lanes) (s : State) : Type 0 wher
   pub is : read.seen.now ≡ Some now
   pub laid : IsLaidOut now.state read.items read.front lanes s
 
--- The same of the script in these bytes.
+-- This is the first line of the script in these bytes that gives a number which a line above it names.
 pub record IsRaceIn (input : List ℕ) (line : ℕ) : Type 0 where
   pub read : Read
-  pub now : Progress
   pub reads : ReadsAll 1 unread (lines_of input) read
-  pub is : read.seen.now ≡ Some now
-  pub first : IsRace now.state read.items line
+  pub first : race_of read.items ≡ Some line
 
 -- ---- an order as a script
 
--- the text of the lines that went so far, how many of each lane those are, what they waited for alone, and the first late creation that was refused
+-- the text of the lines that went so far, how many of each lane those are, and what was closed where acts were tried
 pub record Gone : Type 0 where
   pub text : List ℕ
   pub at : List ℕ
-  pub awaited : List ℕ
-  pub refused : Option ℕ
+  pub closed : List ℕ
 
 -- the line of the lane that goes next
 abbrev pub next_line : Texts → List ℕ → ℕ → List ℕ
@@ -149,18 +134,17 @@ next_line texts at lane = slice_index_or (slice_index_or texts lane []) (slice_i
 abbrev pub next_ask : Lanes → List ℕ → ℕ → Option Ask
 next_ask lanes at lane = slice_get (asks lanes.plan lane) (slice_index_or at lane 0)
 
--- the lane goes: its next line follows
+-- the lane goes: its next line follows, and then what it closes with a claim
 abbrev pub gone_on : Lanes → Gone → ℕ → Gone
 gone_on lanes gone lane = record {
-  text = gone.text ++ whole_line (next_line lanes.texts gone.at lane);
+  text = gone.text ++ whole_line (next_line lanes.texts gone.at lane) ++ close_lines lane (lost_by lanes.late gone.closed (next_ask lanes gone.at lane));
   at = slice_set gone.at lane (slice_index_or gone.at lane 0 + 1);
-  awaited = with_awaited gone.awaited (next_ask lanes gone.at lane);
-  refused = option_or gone.refused (refused_by lanes.late gone.awaited (next_ask lanes gone.at lane));
+  closed = gone.closed ++ tries_of gone.closed (next_ask lanes gone.at lane);
 }
 
 -- no lane went yet, and the front stands before all
 abbrev pub none_gone : Lanes → Gone
-none_gone lanes = record { text = lanes.front; at = replicate (length lanes.texts) 0; awaited = []; refused = None }
+none_gone lanes = record { text = lanes.front; at = replicate (length lanes.texts) 0; closed = [] }
 
 -- these lanes went, one after another
 abbrev pub gone_all : Lanes → List ℕ → Gone
@@ -169,10 +153,6 @@ gone_all lanes order = fold (gone_on lanes) (none_gone lanes) order
 -- after the front the lines of an order, each as it stands
 abbrev pub order_text : Lanes → List ℕ → List ℕ
 order_text lanes order = (gone_all lanes order).text
-
--- the number of the first late creation that is refused in the order
-abbrev pub refused_in : Lanes → List ℕ → Option ℕ
-refused_in lanes order = (gone_all lanes order).refused
 
 -- ---- faults
 

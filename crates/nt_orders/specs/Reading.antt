@@ -20,8 +20,8 @@ use Rattle.nt_plans.specs.declared.items.LaneFault.TheVariants as lane
 use Rattle.nt_orders.specs.declared.reading.Reading.{Reading}
 use Rattle.nt_orders.specs.declared.order.Gone as kept_gone
 use Rattle.nt_plans.specs.Gates as gates
-use Rattle.nt_orders.specs.Plans.{Gone, IsLaidOut, IsRace, Read, ReadsAll, Stops, unread}
-use Rattle.nt_plans.specs.Gates.{Does, Gate, Gates, Item, Key, Kind, Laid, Lanes, Planned, Texts}
+use Rattle.nt_orders.specs.Plans.{Gone, IsLaidOut, Read, ReadsAll, Stops, unread}
+use Rattle.nt_plans.specs.Gates.{Item, Lanes, race_of}
 
 -- the lanes of a script that was read
 abbrev pub lanes_of : Script → Lanes
@@ -38,7 +38,7 @@ read_of reading = record {
 
 -- how far an order was gone
 abbrev pub gone_of : kept_gone.Gone → Gone
-gone_of gone = record { text = gone.text.items; at = gone.at.items; awaited = gone.awaited.items; refused = gone.refused }
+gone_of gone = record { text = gone.text.items; at = gone.at.items; closed = gone.closed.items }
 
 -- ---- one line
 
@@ -72,15 +72,9 @@ IsPlanFault race (orders.Race line) = race line
 IsPlanFault race (orders.NoThread line) = ⊥
 IsPlanFault race (orders.Run fault) = ⊥
 
--- what was read so has this line as its first that races
-pub record IsRaceOf (read : Read) (line : ℕ) : Type 0 where
-  pub now : Progress
-  pub is : read.seen.now ≡ Some now
-  pub first : IsRace now.state read.items line
-
 -- why there is no script once all lines before this one were read: there is no `threads` line, or they are not planned
 abbrev pub IsLateFault : ℕ → Read → OrdersFault → Type 0
-IsLateFault number read fault = ((read.seen.now ≡ None) × (fault ≡ orders.Run (run.Script number ThreadsExpected))) ⊎ IsPlanFault (IsRaceOf read) fault
+IsLateFault number read fault = ((read.seen.now ≡ None) × (fault ≡ orders.Run (run.Script number ThreadsExpected))) ⊎ IsPlanFault (λ line. race_of read.items ≡ Some line) fault
 
 -- ---- the lines so far
 

@@ -15,8 +15,7 @@ pub enum OrdersFault {
     Run(RunFault),
     /// No thread has the number of the line's caller.
     NoThread { line: u64 },
-    /// In another order a handle would name another thing: the line makes a duplicate, and may go after its source is closed; or it gives a
-    /// number that a line above it names.
+    /// In another order a handle would name another thing: the line gives a number that a line above it names.
     Race { line: u64 },
     /// Memory was refused to the search, or to the report.
     Memory,

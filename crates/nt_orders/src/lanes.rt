@@ -1,16 +1,17 @@
 //! A script as a plan.
-ghost use Rattle.std.specs.Prelude.{◌≡◌, ◌++◌, map, IfErr, IfOk, OnOk};
+ghost use Rattle.std.specs.Prelude.{◌≡◌, map, IfErr, IfOk, Some};
 ghost use Rattle.nt_machine.specs.Dispatcher.{state};
 ghost use Rattle.nt_plans.specs.Kept.{gates_of, item_of};
 ghost use Rattle.nt_plans.specs.Lines.{AreGates};
-ghost use Rattle.nt_orders.specs.Plans.{IsLaidOut, IsRace, whole_line};
+ghost use Rattle.nt_plans.specs.Gates.{race_of};
+ghost use Rattle.nt_orders.specs.Plans.{IsLaidOut};
 ghost use Rattle.nt_orders.specs.Reading.{IsPlanFault, lanes_of};
 ghost use Rattle.nt_orders.specs.declared.fault.OrdersFault.TheVariants.{Memory};
 
 use crate::fault::OrdersFault;
 use nt_core::Core;
 use nt_explore::Plan;
-use nt_plans::{Gates, Item, Laid, Line, Made, PlanFault, Planned, make_gates, plan_all};
+use nt_plans::{Gates, Item, Laid, Line, Made, Planned, make_gates, plan_all, race_of};
 use nt_script::Session;
 use std::alloc::{AllocError, Global};
 
@@ -26,16 +27,8 @@ pub struct Script {
     pub(crate) lines: Vec<Vec<Line>>,
     /// The lines of no lane, as they stand: those up to the `threads` line, creations, and what says nothing.
     pub(crate) front: Vec<u8>,
-    /// The late creations, with their gates and keys.
+    /// The late creations, with their gates and claims.
     pub(crate) late: Vec<Made>,
-}
-
-/// Puts a line as it stands, with an LF.
-pub(crate) fn put_whole(out: &mut Vec<u8>, line: &[u8]) -> Result<(), AllocError>
-    ensures { OnOk result (out.new.items ≡ out.old.items ++ whole_line line.now) }
-{
-    out.extend_from_slice(line)?;
-    out.extend_from_slice(b"\n")
 }
 
 /// A copy of the session's dispatcher.
@@ -48,7 +41,7 @@ fn core_of(session: &Session) -> Result<Core, AllocError>
     }
 }
 
-/// The session's dispatcher once a gate and a key are made for each late creation among these lines, and these.
+/// The session's dispatcher once a gate and a claim are made for each late creation among these lines, and these.
 fn with_gates(
     alloc: Global,
     session: &Session,
@@ -66,7 +59,7 @@ fn with_gates(
     }
 }
 
-/// The script of these lines, laid out, with a gate and a key for each late creation.
+/// The script of these lines, laid out, with a gate and a claim for each late creation.
 pub(crate) fn lay_out(
     alloc: Global,
     session: Session,
@@ -76,8 +69,11 @@ pub(crate) fn lay_out(
 ) -> Result<Script, OrdersFault>
     ensures script { IfOk result (λ script. IsLaidOut (state session.core) (map item_of items.now) front.items
         (lanes_of script) (state script.session.core)) }
-    ensures fault { IfErr result (IsPlanFault (IsRace (state session.core) (map item_of items.now))) }
+    ensures fault { IfErr result (IsPlanFault (λ line. race_of (map item_of items.now) ≡ Some line)) }
 {
+    if let Some(line) = race_of(items) {
+        return Err(OrdersFault::Race { line });
+    }
     let mut session = session;
     let (core, gates) = with_gates(alloc, &session, items)?;
     match plan_all(alloc, session.core().threads(), &gates, items) {
@@ -93,7 +89,6 @@ pub(crate) fn lay_out(
                 late: above,
             })
         }
-        Err(PlanFault::Race { line }) => Err(OrdersFault::Race { line }),
-        Err(PlanFault::Memory) => Err(OrdersFault::Memory),
+        Err(_) => Err(OrdersFault::Memory),
     }
 }

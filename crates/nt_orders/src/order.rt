@@ -1,29 +1,53 @@
 //! An order is gone, from the start; and an order as a script.
-ghost use Rattle.std.specs.Prelude.{◌≡◌, ◌+◌, ◌<◌, ◌^◌, [], slice_index_or, IfErr, IfOk, IfSome, OnOk, option_map, None, Some};
-ghost use Rattle.std.specs.Option.{option_or};
+ghost use Rattle.std.specs.Prelude.{◌≡◌, ◌++◌, IfErr, IfOk, OnOk, option_map, Some};
 ghost use Rattle.nt_lanes.specs.Lanes.{asked};
-ghost use Rattle.nt_orders.specs.Ending.{order_of, refused_of};
+ghost use Rattle.nt_orders.specs.Ending.{order_of};
 ghost use Rattle.nt_orders.specs.Plans.{gone_all, gone_on, none_gone};
-ghost use Rattle.nt_plans.specs.Gates.{refused_by, with_awaited};
-ghost use Rattle.nt_orders.specs.Reading.{IsPlanFault, gone_of, lanes_of};
-ghost use Rattle.nt_plans.specs.Kept.{texts_of};
+ghost use Rattle.nt_orders.specs.declared.fault.OrdersFault.TheVariants.{Memory};
+ghost use Rattle.nt_plans.specs.Gates.{close_lines, lost_by, tries_of};
+ghost use Rattle.nt_orders.specs.Reading.{gone_of, lanes_of};
 
 use crate::fault::OrdersFault;
-use crate::lanes::{Script, put_whole};
+use crate::lanes::Script;
 use crate::rows::Row;
-use nt_core::{Core, Reply};
+use nt_calls::{Act, Call};
+use nt_core::{Core, Grant, Reply};
 use nt_explore::{Ask, OrderVerdict};
-use nt_plans::{Line, Made, asks_for_key, note_awaited, refused_by};
+use nt_plans::{Line, Made, bytes_at, put_closes, put_whole, tries_of};
 use nt_status::{Handle, Refusal};
 use nt_wording::answer_of;
 use std::alloc::{AllocError, Global};
 
-/// Makes what the lane is asked for.
-fn make(core: &mut Core, lane: u32, ask: &Ask) -> Result<Reply, Refusal> {
-    match ask {
+/// Tries the acts, and notes the waits that they end. Where a claim is closed first, that it was closed before is no fault of theirs.
+fn try_all(
+    core: &mut Core,
+    lane: u32,
+    acts: &[Act],
+    grants: &mut Vec<Grant>,
+) -> Result<Reply, Refusal> {
+    let mut answer = Ok(Reply::Done);
+    for act in acts {
+        answer = core.call(lane, &Call::Act(*act));
+        grants.extend_from_slice(core.grants())?;
+        if answer.is_err() {
+            break;
+        }
+    }
+    match acts {
+        [Act::Close(_), ..] => Ok(Reply::Done),
+        _ => answer,
+    }
+}
+
+/// Makes what the lane is asked for, and notes the waits that this ends.
+fn make(core: &mut Core, lane: u32, ask: &Ask, grants: &mut Vec<Grant>) -> Result<Reply, Refusal> {
+    let answer = match ask {
+        Ask::Tries(acts) => return try_all(core, lane, acts, grants),
         Ask::Call(call) => core.call(lane, call),
         Ask::Tick(moment) => core.tick(*moment),
-    }
+    };
+    grants.extend_from_slice(core.grants())?;
+    answer
 }
 
 impl Script {
@@ -32,20 +56,22 @@ impl Script {
         self.lines.get(lane as usize)?.get(place)
     }
 
-    /// Makes what the lane is asked for, and tells what came of it. Where memory was refused it is another run.
+    /// Makes what the lane is asked for at this place, and tells what came of it. Where memory was refused it is another run.
     fn answer(
         &self,
         alloc: Global,
         core: &mut Core,
         lane: u32,
-        ask: &Ask,
+        place: usize,
     ) -> Result<Vec<u8>, AllocError> {
-        let answer = match make(core, lane, ask) {
-            Err(Refusal::Memory) => return Err(AllocError),
-            Ok(Reply::Status(_)) if asks_for_key(&self.late, ask) => Ok(Reply::Done),
-            answer => answer,
+        let Some(ask) = self.plan.ask(lane, place) else {
+            return Err(AllocError);
         };
-        answer_of(alloc, &answer, core.grants())
+        let mut grants = Vec::new(alloc);
+        match make(core, lane, ask, &mut grants) {
+            Err(Refusal::Memory) => Err(AllocError),
+            answer => answer_of(alloc, &answer, &grants),
+        }
     }
 
     /// The lane goes: its next line is carried out.
@@ -60,19 +86,16 @@ impl Script {
             return Err(AllocError);
         };
         let place = *place;
-        match (self.line(lane, place), self.plan.ask(lane, place)) {
-            (Some(line), Some(ask)) => {
-                let answer = self.answer(alloc, core, lane, ask)?;
-                places[lane as usize] = place.saturating_add(1);
-                let text = line.text.clone()?;
-                Ok(Row {
-                    number: line.number,
-                    text,
-                    answer,
-                })
-            }
-            _ => Err(AllocError),
-        }
+        let Some(line) = self.line(lane, place) else {
+            return Err(AllocError);
+        };
+        let answer = self.answer(alloc, core, lane, place)?;
+        places[lane as usize] = place.saturating_add(1);
+        Ok(Row {
+            number: line.number,
+            text: line.text.clone()?,
+            answer,
+        })
     }
 
     /// The lanes go, one after another; each step is returned. `places` says how far each lane is.
@@ -102,10 +125,7 @@ impl Script {
     /// The number of the line that the lane carried out last; 0 for none.
     fn last_line(&self, lane: u32, places: &[usize]) -> u64 {
         match places.get(lane as usize) {
-            Some(place) if *place > 0 => match self.line(lane, *place - 1) {
-                Some(line) => line.number,
-                None => 0,
-            },
+            Some(place) if *place > 0 => self.line(lane, *place - 1).map_or(0, |line| line.number),
             _ => 0,
         }
     }
@@ -133,49 +153,38 @@ impl Script {
     }
 }
 
-/// The lane's line at this place, as it stands.
-#[tactic(auto, using(crate::proofs::Lines::bytes_there))]
-fn bytes_at(lines: &[Vec<Line>], lane: u32, place: usize) -> Option<&[u8]>
-    ensures bytes { IfSome result (λ bytes.
-        bytes.now ≡ slice_index_or (slice_index_or (texts_of lines.now) lane []) place []) }
-    ensures few { IfSome result (λ bytes. place + 1 < 2 ^ 64) }
-{
-    if lane as usize >= lines.len() {
-        return None;
-    }
-    let own = lines[lane as usize].as_slice();
-    if place >= own.len() {
-        return None;
-    }
-    Some(own[place].bytes.as_slice())
-}
-
-/// How far an order was gone: its text, how many lines of each lane, what they waited for alone, and the first that was refused.
+/// How far an order was gone: its text, how many lines of each lane, and what was closed where acts were tried.
 #[derive(Drop)]
 pub(crate) struct Gone {
     pub text: Vec<u8>,
     pub at: Vec<usize>,
-    pub awaited: Vec<Handle>,
-    pub refused: Option<u64>,
+    pub closed: Vec<Handle>,
 }
 
 impl Gone {
-    /// Notes what is asked of the lane that goes.
-    fn note(&mut self, late: &[Made], ask: &Ask) -> Result<(), AllocError>
-        ensures awaited { OnOk result (self.new.awaited.items ≡ with_awaited self.old.awaited.items (Some (asked ask.now))) }
-        ensures refused { OnOk result (self.new.refused ≡ option_or self.old.refused
-            (refused_by late.now self.old.awaited.items (Some (asked ask.now)))) }
-        ensures text { self.new.text ≡ self.old.text }
+    /// Puts what the lane that goes closes with a claim, and notes it.
+    fn close(
+        &mut self,
+        alloc: Global,
+        late: &[Made],
+        lane: u32,
+        ask: &Ask,
+    ) -> Result<(), AllocError>
+        ensures text { OnOk result (self.new.text.items
+            ≡ self.old.text.items ++ close_lines lane (lost_by late.now self.old.closed.items (Some (asked ask.now)))) }
+        ensures closed { OnOk result (self.new.closed.items
+            ≡ self.old.closed.items ++ tries_of self.old.closed.items (Some (asked ask.now))) }
         ensures at { self.new.at ≡ self.old.at }
     {
-        self.refused = self.refused.or(refused_by(late, &self.awaited, ask));
-        note_awaited(&mut self.awaited, ask)
+        let closed = tries_of(alloc, &self.closed, ask)?;
+        put_closes(&mut self.text, late, lane, &closed)?;
+        self.closed.extend_from_slice(&closed)
     }
 }
 
 impl Script {
-    /// The lane goes: its next line follows.
-    fn put_next(&self, gone: &mut Gone, lane: u32) -> Result<(), AllocError>
+    /// The lane goes: its next line follows, and what it closes with a claim.
+    fn put_next(&self, alloc: Global, gone: &mut Gone, lane: u32) -> Result<(), AllocError>
         ensures { OnOk result (gone_of gone.new ≡ gone_on (lanes_of self.now) (gone_of gone.old) lane) }
     {
         if lane as usize >= gone.at.len() {
@@ -187,8 +196,8 @@ impl Script {
             self.plan.ask(lane, place),
         ) {
             (Some(bytes), Some(ask)) => {
-                gone.note(&self.late, ask)?;
                 put_whole(&mut gone.text, bytes)?;
+                gone.close(alloc, &self.late, lane, ask)?;
                 gone.at[lane as usize] = place + 1;
                 Ok(())
             }
@@ -203,8 +212,7 @@ impl Script {
         Ok(Gone {
             text: Vec::from_slice(alloc, &self.front)?,
             at: Vec::from_elem(alloc, 0, self.lines.len())?,
-            awaited: Vec::new(alloc),
-            refused: None,
+            closed: Vec::new(alloc),
         })
     }
 
@@ -214,29 +222,22 @@ impl Script {
     {
         let mut gone = self.none_gone(alloc)?;
         for lane in order {
-            self.put_next(&mut gone, *lane)?;
+            self.put_next(alloc, &mut gone, *lane)?;
         }
         Ok(gone)
     }
 
-    /// The order that hangs, as a script, if one does and no late creation is refused.
+    /// The order that hangs, as a script, if one does.
     pub(crate) fn order_of(
         &self,
         alloc: Global,
         verdict: &OrderVerdict,
     ) -> Result<Option<Vec<u8>>, OrdersFault>
         ensures order { IfOk result (λ order. option_map (λ text. text.items) order ≡ order_of (lanes_of self.now) verdict.now) }
-        ensures none { IfOk result (λ order. refused_of (lanes_of self.now) verdict.now ≡ None) }
-        ensures fault { IfErr result (IsPlanFault (λ line. refused_of (lanes_of self.now) verdict.now ≡ Some line)) }
+        ensures fault { IfErr result (λ fault. fault ≡ Memory) }
     {
         match verdict {
             OrderVerdict::Hangs { lanes, .. } => match self.go_all(alloc, lanes) {
-                Ok(
-                    Gone {
-                        refused: Some(line),
-                        ..
-                    },
-                ) => Err(OrdersFault::Race { line }),
                 Ok(Gone { text, .. }) => Ok(Some(text)),
                 Err(_) => Err(OrdersFault::Memory),
             },

@@ -9,18 +9,20 @@ ghost use Rattle.nt_hangs.specs.Watching.{Sees, names_of, seen_of};
 ghost use Rattle.nt_grammar.specs.Scope.{handle_in};
 ghost use Rattle.nt_lanes.specs.Lanes.{asked};
 ghost use Rattle.nt_orders.specs.Ending.{IsFirstFault};
-ghost use Rattle.nt_orders.specs.Plans.{IsPlanOf, Reads, ReadsAll, Stops, given, is_open, made_on, unread, whole_line, with_closed, with_ended, with_exited, with_made};
+ghost use Rattle.nt_orders.specs.Plans.{IsPlanOf, Reads, ReadsAll, Stops, given, is_open, made_on, unread, with_closed, with_ended, with_exited, with_made};
 ghost use Rattle.nt_orders.specs.Reading.{IsLast, IsLateFault, IsScriptOf, at_line, lanes_of, read_of};
-ghost use Rattle.nt_plans.specs.Gates.{closed_by};
+ghost use Rattle.nt_plans.specs.Gates.{closed_by, whole_line};
 ghost use Rattle.nt_plans.specs.Kept.{Finds, IsLaneFault, ended_of, item_of};
 
 use crate::fault::{OrdersFault, fault_at};
-use crate::lanes::{Script, lay_out, put_whole};
+use crate::lanes::{Script, lay_out};
 use nt_calls::Call;
 use nt_explore::Ask;
 use nt_grammar::{LineFault, ScriptFault};
 use nt_hangs::Watch;
-use nt_plans::{Creation, Does, Ended, Found, Item, LaneFault, closed_by, find_in, line_of};
+use nt_plans::{
+    Creation, Does, Ended, Found, Item, LaneFault, closed_by, find_in, line_of, put_whole,
+};
 use nt_script::RunFault;
 use nt_status::Handle;
 use nt_wording::first_line;

@@ -1,11 +1,11 @@
 //! The report of a script's orders.
-ghost use Rattle.std.specs.Prelude.{◌≡◌, IfErr, IfOk, None, OnErr, Some, option_map};
+ghost use Rattle.std.specs.Prelude.{◌≡◌, IfErr, IfOk, OnErr, option_map};
 ghost use Rattle.nt_machine.specs.Dispatcher.{state};
 ghost use Rattle.nt_hangs.specs.Watching.{before_zero};
 ghost use Rattle.nt_explore.specs.Search.{TellsVerdict};
 ghost use Rattle.nt_lanes.specs.Lanes.{beginning};
-ghost use Rattle.nt_orders.specs.Ending.{verdict_code, order_of, refused_of, IsCutOff, IsSearched, IsOrdersOutcome};
-ghost use Rattle.nt_orders.specs.Reading.{IsPlanFault, lanes_of};
+ghost use Rattle.nt_orders.specs.Ending.{verdict_code, order_of, IsCutOff, IsSearched, IsOrdersOutcome};
+ghost use Rattle.nt_orders.specs.Reading.{lanes_of};
 ghost use Rattle.nt_orders.specs.declared.fault.OrdersFault.TheVariants.{Memory};
 
 use crate::fault::OrdersFault;
@@ -249,7 +249,7 @@ impl Script {
         }
     }
 
-    /// Reports on what was explored, unless a late creation is refused there.
+    /// Reports on what was explored.
     fn findings(
         &mut self,
         alloc: Global,
@@ -260,8 +260,7 @@ impl Script {
         ensures code { IfOk result (λ found. found.report.code ≡ verdict_code explored.now.verdict) }
         ensures order { IfOk result (λ found. option_map (λ text. text.items) found.order
             ≡ order_of (lanes_of self.old) explored.now.verdict) }
-        ensures none { IfOk result (λ found. refused_of (lanes_of self.old) explored.now.verdict ≡ None) }
-        ensures fault { IfErr result (IsPlanFault (λ line. refused_of (lanes_of self.old) explored.now.verdict ≡ Some line)) }
+        ensures fault { IfErr result (λ fault. fault ≡ Memory) }
     {
         let order = self.order_of(alloc, &explored.verdict)?;
         let report = self.report_with_titles(alloc, file, told, explored)?;

@@ -1,11 +1,10 @@
 -- Gates: a late creation, one after a call, is a step of its lane too. It is made before all calls, so that each handle keeps its number, and an
--- event that no line names, its gate, is set when its line goes. What names its handle in another lane waits for the gate first. As its line goes it waits
--- for its key, an event that is set from the start, and that nobody can set again. A line that closes what it makes another handle of takes that first: then
--- the creation, which is refused in such an order, waits for ever there, and the order hangs.
-use Rattle.std.specs.Prelude.{◌≡◌, ℕ, ◌+◌, ◌==◌, ◌&&◌, ◌++◌, nat_lt, Bool, true, false, not, List, [], ◌∷◌, length, replicate, slice_get, slice_set, slice_index_or, Option, None, Some, is_some, option_map, Result, Ok, if◌then◌else◌, codes}
+-- event that no line names, its gate, is set when its line goes. What names its handle in another lane waits for the gate first. Its claim is a handle
+-- that no line names either, and is closed once: as its line goes, or before that by a line that closes what it makes another handle of. Then the creation is
+-- refused: what it made is closed with the claim, and so are what others make of that, and their claims.
+use Rattle.std.specs.Prelude.{◌≡◌, ℕ, ◌+◌, ◌==◌, ◌&&◌, ◌++◌, nat_lt, Bool, true, false, not, List, [], ◌∷◌, length, map, replicate, slice_get, slice_set, slice_index_or, Option, None, Some, is_some, Result, Ok, if◌then◌else◌, codes}
 use Rattle.std.specs.List.{filter, find, fold, list_any}
 use Rattle.std.specs.Fmt.{decimal}
-use Rattle.nt_status.specs.Access.{synchronize}
 use Rattle.nt_status.specs.declared.limits.TheConstants.{INFINITE}
 use Rattle.nt_status.specs.declared.refusal.Refusal.{Refusal}
 use Rattle.nt_calls.specs.State.{State}
@@ -16,8 +15,8 @@ use Rattle.nt_calls.specs.declared.call.WaitCall.{WaitCall}
 use Rattle.nt_calls.specs.declared.call.Reply.{Reply}
 use Rattle.nt_calls.specs.declared.call.Grant.{Grant}
 use Rattle.nt_grammar.specs.Naming.{handle_of}
-use Rattle.nt_look.specs.Orders.{Ask, Calls, Plan, asks}
-use Rattle.nt_lanes.specs.Lanes.{names_handle, plan_names}
+use Rattle.nt_look.specs.Orders.{Ask, Calls, Tries, Plan, asks}
+use Rattle.nt_lanes.specs.Lanes.{names_handle}
 use Rattle.nt_plans.specs.declared.laying.Made.{Made}
 use Rattle.nt_plans.specs.declared.laying.Pass.{Pass}
 
@@ -83,6 +82,10 @@ with_passed laid lane gate = record { plan = laid.plan; texts = laid.texts; pass
 abbrev pub none_laid : ℕ → Laid
 none_laid threads = record { plan = replicate (threads + 1) []; texts = replicate (threads + 1) []; passed = [] }
 
+-- a line as it stands, with an LF
+abbrev pub whole_line : List ℕ → List ℕ
+whole_line bytes = bytes ++ 10 ∷ []
+
 -- ---- waits for gates
 
 -- a wait for the gate, without end
@@ -97,7 +100,7 @@ wait_line lane number = codes "; t" ++ (decimal lane ++ (codes " waits for line 
 abbrev pub made_line : ℕ → List ℕ
 made_line number = codes "; line " ++ (decimal number ++ codes " goes here")
 
--- and so where the key of one is taken
+-- and so where its claim is closed first
 abbrev pub taken_line : ℕ → ℕ → List ℕ
 taken_line lane number = codes "; t" ++ (decimal lane ++ (codes " closes the source of line " ++ decimal number))
 
@@ -140,21 +143,34 @@ closes (Makes made source) (Some handle) = false
 abbrev pub may_close_first : Laid → Item → Made → Bool
 may_close_first laid item made = closes item.does made.source && not (has_passed laid.passed item.lane made.gate)
 
--- the key is taken, if it still stands
-abbrev pub taking : ℕ → Ask
-taking key = Calls (Call.Wait (WaitCall.Objects false (record { ms = 0; alertable = false }) (key ∷ [])))
+-- it is one of these
+abbrev pub is_among : List ℕ → Option ℕ → Bool
+is_among handles None = false
+is_among handles (Some handle) = list_any (λ it. it == handle) handles
 
--- the line takes the key of that creation first
-abbrev pub takes_key : Laid → Item → Made → Laid
-takes_key laid item made = with_line laid item.lane (taking made.key) (taken_line item.lane made.number)
+-- these are lost, and with them the handle that is made of one of them, and its claim
+abbrev pub with_lost : List ℕ → Made → List ℕ
+with_lost lost made = if is_among lost made.source then lost ++ made.handle ∷ made.claim ∷ [] else lost
+
+-- what is lost of all late creations where this handle is not made
+abbrev pub lost_with : List Made → ℕ → List ℕ
+lost_with all handle = fold with_lost (handle ∷ []) all
+
+-- the claim is closed; if it stood, so are these
+abbrev pub taking : ℕ → List ℕ → Ask
+taking claim lost = Tries (map Act.Close (claim ∷ lost))
+
+-- the line closes the claim of that creation first
+abbrev pub takes_claim : List Made → Laid → Item → Made → Laid
+takes_claim all laid item made = with_line laid item.lane (taking made.claim (lost_with all made.handle)) (taken_line item.lane made.number)
 
 -- so it does if it may close first what that makes another handle of
-abbrev pub takes_if_first : Item → Laid → Made → Laid
-takes_if_first item laid made = if may_close_first laid item made then takes_key laid item made else laid
+abbrev pub takes_if_first : List Made → Item → Laid → Made → Laid
+takes_if_first all item laid made = if may_close_first laid item made then takes_claim all laid item made else laid
 
 -- what stands before a line for one of the late creations above it
-abbrev pub before_line : Item → Laid → Made → Laid
-before_line item laid made = takes_if_first item (after_if_named item.lane item.does laid made) made
+abbrev pub before_line : List Made → Item → Laid → Made → Laid
+before_line all item laid made = takes_if_first all item (after_if_named item.lane item.does laid made) made
 
 -- it is the lane of one of so many threads, and has nothing to do yet
 abbrev pub is_new : ℕ → ℕ → Laid → Bool
@@ -174,28 +190,37 @@ abbrev pub after_beginning : ℕ → List Made → ℕ → Laid → Laid
 after_beginning threads above lane laid = if is_new threads lane laid then after_any lane laid (beginning_of lane above) else laid
 
 -- what stands before a line, for all late creations above it
-abbrev pub after_all : ℕ → List Made → Laid → Item → Laid
-after_all threads above laid item = fold (before_line item) (after_beginning threads above item.lane laid) above
+abbrev pub after_all : ℕ → List Made → List Made → Laid → Item → Laid
+after_all threads all above laid item = fold (before_line all item) (after_beginning threads above item.lane laid) above
 
--- ---- keys that are taken
+-- ---- claims that are closed
 
--- the key of one of these is asked for
-abbrev pub asks_for_key : List Made → Ask → Bool
-asks_for_key late ask = list_any (λ made. names_handle made.key ask) late
+-- what acts close that are tried, up to the first of these that was closed before
+abbrev pub closed_in : List ℕ → List Act → List ℕ
+closed_in closed [] = []
+closed_in closed (Act.Close handle ∷ acts) = if list_any (λ it. it == handle) closed then [] else handle ∷ closed_in closed acts
+closed_in closed (act ∷ acts) = closed_in closed acts
 
--- what was waited for alone, with what is waited for so
-abbrev pub with_awaited : List ℕ → Option Ask → List ℕ
-with_awaited awaited (Some (Calls (Call.Wait (WaitCall.Objects all mode (handle ∷ []))))) = awaited ++ handle ∷ []
-with_awaited awaited ask = awaited
+-- what is closed so where this is asked
+abbrev pub tries_of : List ℕ → Option Ask → List ℕ
+tries_of closed (Some (Tries acts)) = closed_in closed acts
+tries_of closed ask = []
 
--- the number of the late creation with this key
-abbrev pub number_of : List Made → ℕ → Option ℕ
-number_of late key = option_map (λ made. made.number) (find (λ made. made.key == key) late)
+-- the handle is a claim of one of these
+abbrev pub is_claim : List Made → ℕ → Bool
+is_claim late handle = list_any (λ made. made.claim == handle) late
 
--- the late creation that goes so, if its key was taken: then what it makes another handle of may be closed before, and it is refused
-abbrev pub refused_by : List Made → List ℕ → Option Ask → Option ℕ
-refused_by late awaited (Some (Calls (Call.Wait (WaitCall.Swap gate key mode)))) = if list_any (λ it. it == key) awaited then number_of late key else None
-refused_by late awaited ask = None
+-- what is closed so, but for claims
+abbrev pub lost_by : List Made → List ℕ → Option Ask → List ℕ
+lost_by late closed ask = filter (λ handle. not (is_claim late handle)) (tries_of closed ask)
+
+-- the line with which thread t closes this handle
+abbrev pub close_line : ℕ → ℕ → List ℕ
+close_line t handle = whole_line (codes "t" ++ (decimal t ++ (codes " close " ++ decimal handle)))
+
+-- so it closes these
+abbrev pub close_lines : ℕ → List ℕ → List ℕ
+close_lines t handles = fold (λ text handle. text ++ close_line t handle) [] handles
 
 -- ---- all lines
 
@@ -204,10 +229,10 @@ pub record Planned : Type 0 where
   pub laid : Laid
   pub above : List Made
 
--- by late creation, the gates and the keys
+-- by late creation, the gates and the claims
 pub record Gates : Type 0 where
   pub gates : List ℕ
-  pub keys : List ℕ
+  pub claims : List ℕ
 
 -- the next one after these late creations
 abbrev pub next_of : List ℕ → List Made → ℕ
@@ -221,16 +246,25 @@ made_by gates above item handle source = record {
   handle = handle;
   source = source;
   gate = next_of gates.gates above;
-  key = next_of gates.keys above;
+  claim = next_of gates.claims above;
 }
 
--- its gate is set, and its key is waited for, in one step
-abbrev pub opening : (gate key : ℕ) → Ask
-opening gate key = Calls (Call.Wait (WaitCall.Swap gate key (record { ms = INFINITE; alertable = false })))
+-- the late creations, with that on this line if it is one
+abbrev pub with_made : Gates → List Made → Item → Does → List Made
+with_made gates above item (Asks ask) = above
+with_made gates above item (Makes handle source) = above ++ made_by gates above item handle source ∷ []
+
+-- those on these lines
+abbrev pub all_made : Gates → List Item → List Made
+all_made gates items = fold (λ above item. with_made gates above item item.does) [] items
+
+-- its gate is set, and its claim is closed, in one step
+abbrev pub opening : (gate claim : ℕ) → Ask
+opening gate claim = Tries (Act.SetEvent gate ∷ Act.Close claim ∷ [])
 
 -- its line goes so
 abbrev pub opened_by : Laid → Made → Laid
-opened_by laid made = with_passed (with_line laid made.who (opening made.gate made.key) (made_line made.number)) made.who made.gate
+opened_by laid made = with_passed (with_line laid made.who (opening made.gate made.claim) (made_line made.number)) made.who made.gate
 
 -- and is the last of the late creations so far
 abbrev pub with_opened : Planned → Made → Planned
@@ -242,9 +276,9 @@ goes_last gates old item (Asks ask) = record { laid = with_line old.laid item.la
 goes_last gates old item (Makes handle source) = with_opened old (made_by gates old.above item handle source)
 
 -- a line more is planned
-abbrev pub planned_on : ℕ → Gates → Planned → Item → Planned
-planned_on threads gates old item =
-    goes_last gates (record { laid = after_all threads old.above old.laid item; above = old.above }) item item.does
+abbrev pub planned_on : ℕ → Gates → List Made → Planned → Item → Planned
+planned_on threads gates all old item =
+    goes_last gates (record { laid = after_all threads all old.above old.laid item; above = old.above }) item item.does
 
 -- nothing is planned yet
 abbrev pub none_planned : ℕ → Planned
@@ -252,26 +286,25 @@ none_planned threads = record { laid = none_laid threads; above = [] }
 
 -- these lines are planned, with these gates
 abbrev pub planned_all : ℕ → Gates → List Item → Planned
-planned_all threads gates items = fold (planned_on threads gates) (none_planned threads) items
+planned_all threads gates items = fold (planned_on threads gates (all_made gates items)) (none_planned threads) items
 
--- a late creation gives a handle whose number a line above it names: in another order that line names what is made here
-abbrev pub is_race : Laid → Does → Bool
-is_race laid (Asks ask) = false
-is_race laid (Makes handle source) = plan_names laid.plan handle
+-- one of these lines names the handle
+abbrev pub is_named : List Item → ℕ → Bool
+is_named items handle = list_any (λ item. names item.does handle) items
 
--- so it is of this line, once that waited for what it has to
-abbrev pub races : ℕ → Planned → Item → Bool
-races threads old item = is_race (after_all threads old.above old.laid item) item.does
+-- a late creation gives a handle whose number one of these lines above names: in another order that line names what is made here
+abbrev pub is_race : List Item → Does → Bool
+is_race above (Asks ask) = false
+is_race above (Makes handle source) = is_named above handle
 
--- the number of the first such line
-abbrev pub first_race : ℕ → Gates → Planned → List Item → Option ℕ
-first_race threads gates old [] = None
-first_race threads gates old (item ∷ items) =
-    if races threads old item then Some item.number else first_race threads gates (planned_on threads gates old item) items
+-- the number of the first such line after those above
+abbrev pub first_race : List Item → List Item → Option ℕ
+first_race above [] = None
+first_race above (item ∷ items) = if is_race above item.does then Some item.number else first_race (above ++ item ∷ []) items
 
 -- the same of all lines
-abbrev pub race_of : ℕ → Gates → List Item → Option ℕ
-race_of threads gates items = first_race threads gates (none_planned threads) items
+abbrev pub race_of : List Item → Option ℕ
+race_of items = first_race [] items
 
 -- the lanes that are planned so, after this text
 abbrev pub lanes_with : Planned → List ℕ → Lanes
@@ -281,45 +314,34 @@ lanes_with all front = record { plan = all.laid.plan; texts = all.laid.texts; fr
 abbrev pub planned : ℕ → Gates → List ℕ → List Item → Lanes
 planned threads gates front items = lanes_with (planned_all threads gates items) front
 
--- ---- the gates and keys
+-- ---- the gates and claims
 
 -- the act gives this handle
 abbrev pub Gives : State → Act → ℕ → State → Type 0
 Gives old act handle new =
     (result : Result Reply Refusal) × (grants : List Grant) × (handle_of result ≡ Some handle) × Called old 0 (Call.Act act) result grants new
 
--- one of these lines names the handle
-abbrev pub is_named : List Item → ℕ → Bool
-is_named items handle = list_any (λ item. names item.does handle) items
-
 -- an event that is closed at once where this says so
 abbrev pub ClosesIf : Bool → State → ℕ → State → Type 0
 ClosesIf false old event new = new ≡ old
 ClosesIf true old event new = (reply : Reply) × (grants : List Grant) × Called old 0 (Call.Act (Act.Close event)) (Ok reply) grants new
 
--- what is made: a gate, a manual-reset event that is not set; or a key, the one handle of an auto-reset event that is set, with the right to wait alone
-pub data Kind : Type 0 where
-  Gate : Kind
-  Key : Kind
-
-abbrev pub MakesOne : Kind → State → ℕ → State → Type 0
-MakesOne Gate old gate new = Gives old (Act.CreateEvent 1) gate new
-MakesOne Key old key new =
-    (event : ℕ) × (made left : State) × Gives old (Act.CreateEvent 2) event made × Gives made (Act.Duplicate event synchronize) key left
-    × ClosesIf true left event new
+-- a gate or a claim: a manual-reset event that is not set
+abbrev pub MakesOne : State → ℕ → State → Type 0
+MakesOne old event new = Gives old (Act.CreateEvent 1) event new
 
 -- such events are made, one after another, and each that a line names is closed at once, so that the line is refused as in the script
-abbrev pub MakesEvents : Kind → List Item → State → List ℕ → State → Type 0
-MakesEvents kind items old [] new = new ≡ old
-MakesEvents kind items old (event ∷ events) new =
-    (mid left : State) × MakesOne kind old event mid × ClosesIf (is_named items event) mid event left × MakesEvents kind items left events new
+abbrev pub MakesEvents : List Item → State → List ℕ → State → Type 0
+MakesEvents items old [] new = new ≡ old
+MakesEvents items old (event ∷ events) new =
+    (mid left : State) × MakesOne old event mid × ClosesIf (is_named items event) mid event left × MakesEvents items left events new
 
 -- those of them that no line names
 abbrev pub unnamed_of : List Item → List ℕ → List ℕ
 unnamed_of items events = filter (λ event. not (is_named items event)) events
 
 -- so these events are made, and no line names them
-pub record MakesUnnamed (kind : Kind) (items : List Item) (old : State) (unnamed : List ℕ) (new : State) : Type 0 where
+pub record MakesUnnamed (items : List Item) (old : State) (unnamed : List ℕ) (new : State) : Type 0 where
   pub events : List ℕ
-  pub made : MakesEvents kind items old events new
+  pub made : MakesEvents items old events new
   pub are : unnamed ≡ unnamed_of items events

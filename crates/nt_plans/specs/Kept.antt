@@ -16,13 +16,9 @@ use Rattle.nt_plans.specs.declared.items.Item as kept_item
 use Rattle.nt_plans.specs.declared.items.Ended as kept_ended
 use Rattle.nt_plans.specs.declared.laying.Laid as kept_laid
 use Rattle.nt_plans.specs.declared.planning.Gates as kept_gates
-use Rattle.nt_plans.specs.declared.planning.Kind as kept_kind
-use Rattle.nt_plans.specs.declared.planning.Kind.TheVariants as kind
 use Rattle.nt_plans.specs.declared.planning.Planned as kept_planned
-use Rattle.nt_plans.specs.declared.planning.PlanFault.{PlanFault}
-use Rattle.nt_plans.specs.declared.planning.PlanFault.TheVariants as plan
 use Rattle.nt_plans.specs.Gates as gates
-use Rattle.nt_plans.specs.Gates.{Does, Gate, Gates, Item, Key, Kind, Laid, Lanes, Planned, Texts}
+use Rattle.nt_plans.specs.Gates.{Does, Gates, Item, Laid, Lanes, Planned, Texts}
 use Rattle.nt_plans.specs.Lines.{AsksOf, Ended, IsLineThat, IsOfLane, IsOfNobody, IsOfStart, creation_of, is_left_out, is_of_nobody, is_of_start}
 
 -- a line as it stands
@@ -54,14 +50,9 @@ laid_of laid = record { plan = laid.plan; texts = texts_of laid.lines.items; pas
 abbrev pub planned_of : kept_planned.Planned → Planned
 planned_of planned = record { laid = laid_of planned.laid; above = planned.above.items }
 
--- what is made
-abbrev pub kind_of : kept_kind.Kind → Kind
-kind_of kind.Gate = Gate
-kind_of kind.Key = Key
-
--- the gates and keys
+-- the gates and claims
 abbrev pub gates_of : kept_gates.Gates → Gates
-gates_of made = record { gates = made.gates.items; keys = made.keys.items }
+gates_of made = record { gates = made.gates.items; claims = made.claims.items }
 
 -- ---- one line
 
@@ -84,10 +75,3 @@ Finds now ended bytes (Ok (found.Start creation)) = IsOfStart now ended bytes cr
 Finds now ended bytes (Ok found.Nothing) = IsLineThat now (is_left_out ended) bytes
 Finds now ended bytes (Ok (found.Asks place ask)) = IsOfLane now bytes place (asked ask)
 Finds now ended bytes (Err fault) = IsLaneFault now bytes fault
-
--- ---- plans
-
--- why lines are not planned: memory was refused, or this line races
-abbrev pub IsFault : (line : ℕ → Type 0) → PlanFault → Type 0
-IsFault race plan.Memory = Unit {0}
-IsFault race (plan.Race line) = race line

@@ -1,6 +1,5 @@
 -- What the lines of a script are: what is made before all calls, and what goes when its lane does.
-use Rattle.std.specs.Prelude.{◌≡◌, ℕ, ◌<◌, ◌==◌, ◌||◌, Bool, true, false, not, nat_le, List, length, count_by, Option, None, Some}
-use Rattle.std.specs.List.{list_any}
+use Rattle.std.specs.Prelude.{◌≡◌, ℕ, ◌<◌, ◌||◌, Bool, true, false, not, nat_le, List, length, count_by, Option, None, Some}
 use Rattle.nt_calls.specs.State.{State}
 use Rattle.nt_calls.specs.declared.call.Act.{Act}
 use Rattle.nt_look.specs.Orders.{Ask, Calls, Passes}
@@ -8,7 +7,7 @@ use Rattle.nt_script.specs.Progress.{Progress}
 use Rattle.nt_grammar.specs.Lines.{IsLine}
 use Rattle.nt_grammar.specs.declared.parser.Statement.{Statement}
 use Rattle.nt_grammar.specs.declared.parser.Statement.TheVariants.{Blank, Create, Perform, Tick}
-use Rattle.nt_plans.specs.Gates.{Gate, Gates, Item, Key, MakesUnnamed, is_late}
+use Rattle.nt_plans.specs.Gates.{Gates, Item, MakesUnnamed, is_among, is_late}
 use Rattle.nt_plans.specs.declared.items.Creation.{Creation}
 
 -- ---- what is made before all calls
@@ -17,11 +16,6 @@ use Rattle.nt_plans.specs.declared.items.Creation.{Creation}
 abbrev pub source_of : Act → Option ℕ
 source_of (Act.Duplicate handle access) = Some handle
 source_of act = None
-
--- it is one of these
-abbrev pub is_among : List ℕ → Option ℕ → Bool
-is_among handles None = false
-is_among handles (Some handle) = list_any (λ it. it == handle) handles
 
 -- what ended on the lines above: the handles that they close, and the threads that exit there
 pub record Ended : Type 0 where
@@ -39,11 +33,11 @@ is_of_start ended (Create who name act) = not (is_refused ended who (source_of a
 is_of_start ended (Perform who call) = false
 is_of_start ended (Tick moment) = false
 
--- the statement is a creation that is refused so, and makes nothing
+-- the statement is a creation that is refused so, and makes nothing; or a call of a thread that has exited
 abbrev pub is_left_out : Ended → Statement → Bool
 is_left_out ended Blank = false
 is_left_out ended (Create who name act) = is_refused ended who (source_of act)
-is_left_out ended (Perform who call) = false
+is_left_out ended (Perform who call) = is_among ended.exited (Some who)
 is_left_out ended (Tick moment) = false
 
 -- the line is such a statement
@@ -90,12 +84,12 @@ abbrev pub IsOfNobody : Option Progress → List ℕ → Type 0
 IsOfNobody None bytes = ⊥
 IsOfNobody (Some now) bytes = IsLineThat (Some now) (is_of_nobody now.state.threads) bytes
 
--- ---- gates and keys
+-- ---- gates and claims
 
--- In the state to which what a script creates leads, a gate is made for each late creation, and then a key for each; and then the state is this one.
+-- In the state to which what a script creates leads, a gate is made for each late creation, and then a claim for each; and then the state is this one.
 pub record AreGates (start : State) (items : List Item) (gates : Gates) (s : State) : Type 0 where
   pub mid : State
-  pub gated : MakesUnnamed Gate items start gates.gates mid
-  pub keyed : MakesUnnamed Key items mid gates.keys s
+  pub gated : MakesUnnamed items start gates.gates mid
+  pub claimed : MakesUnnamed items mid gates.claims s
   pub each : length gates.gates ≡ count_by is_late items
-  pub both : length gates.keys ≡ count_by is_late items
+  pub both : length gates.claims ≡ count_by is_late items

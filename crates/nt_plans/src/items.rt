@@ -2,9 +2,9 @@
 ghost use Rattle.std.specs.Prelude.{◌≡◌, ◌==◌, IfOk, Some};
 ghost use Rattle.std.specs.List.{list_any};
 ghost use Rattle.nt_lanes.specs.Lanes.{asked};
-ghost use Rattle.nt_plans.specs.Gates.{closed_by, closes, is_handle, names};
+ghost use Rattle.nt_plans.specs.Gates.{closed_by, closes, is_among, is_handle, names};
 ghost use Rattle.nt_plans.specs.Kept.{Finds, IsFoundOf, does_of, ended_of};
-ghost use Rattle.nt_plans.specs.Lines.{is_among, is_refused, source_of};
+ghost use Rattle.nt_plans.specs.Lines.{is_refused, source_of};
 ghost use Rattle.nt_script.specs.Progress.{progress};
 
 use crate::line::Line;
@@ -56,6 +56,7 @@ pub(crate) fn copy_of(ask: &Ask) -> Result<Ask, AllocError>
     match ask {
         Ask::Call(call) => Ok(Ask::Call(call.clone()?)),
         Ask::Tick(moment) => Ok(Ask::Tick(*moment)),
+        Ask::Tries(acts) => Ok(Ask::Tries(acts.clone()?)),
     }
 }
 
@@ -76,6 +77,23 @@ pub fn closed_by(ask: &Ask) -> Option<Handle>
     match ask {
         Ask::Call(Call::Act(Act::Close(handle))) => Some(*handle),
         _ => None,
+    }
+}
+
+/// Whether the handle is one of these.
+pub(crate) fn is_one_of(handles: &[Handle], handle: Handle) -> bool
+    ensures { result ≡ is_among handles.now (Some handle) }
+{
+    handles.iter().any(|it| *it == handle)
+}
+
+/// Whether the handle, if there is one, is one of these.
+pub(crate) fn is_among(handles: &[Handle], sought: Option<Handle>) -> bool
+    ensures { result ≡ is_among handles.now sought }
+{
+    match sought {
+        Some(handle) => is_one_of(handles, handle),
+        None => false,
     }
 }
 
@@ -113,7 +131,7 @@ pub enum LaneFault {
 pub enum Found {
     /// It is carried out before all calls, and may be a creation.
     Start(Option<Creation>),
-    /// It is left out.
+    /// It is left out, since it does nothing in any order.
     Nothing,
     /// It asks this of the lane with this number.
     Asks(u32, Ask),
@@ -129,13 +147,6 @@ fn source_of(act: Act) -> Option<Handle>
     }
 }
 
-/// Whether the handle is one of these.
-pub(crate) fn is_one_of(handles: &[Handle], handle: Handle) -> bool
-    ensures { result ≡ is_among handles.now (Some handle) }
-{
-    handles.iter().any(|it| *it == handle)
-}
-
 impl Ended {
     /// Whether the thread has exited.
     fn has_exited(&self, thread: u32) -> bool
@@ -144,21 +155,11 @@ impl Ended {
         self.exited.iter().any(|it| *it == thread)
     }
 
-    /// Whether the handle, if there is one, is closed.
-    fn is_closed(&self, source: Option<Handle>) -> bool
-        ensures { result ≡ is_among self.now.closed.items source }
-    {
-        match source {
-            Some(handle) => is_one_of(&self.closed, handle),
-            None => false,
-        }
-    }
-
     /// Whether the creation is refused in each order.
     fn refuses(&self, creation: &Creation) -> bool
         ensures { result ≡ is_refused (ended_of self.now) creation.now.who creation.now.source }
     {
-        self.has_exited(creation.who) || self.is_closed(creation.source)
+        self.has_exited(creation.who) || is_among(&self.closed, creation.source)
     }
 }
 
@@ -186,6 +187,8 @@ fn found_of(statement: Statement, threads: u32, ended: &Ended) -> Result<Found, 
         Statement::Perform { who, call } => {
             if who >= threads {
                 Err(LaneFault::NoThread)
+            } else if ended.has_exited(who) {
+                Ok(Found::Nothing)
             } else {
                 Ok(Found::Asks(who, Ask::Call(call)))
             }

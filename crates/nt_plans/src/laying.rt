@@ -1,23 +1,21 @@
 //! The lanes as they are laid out, with waits for what stands above.
-ghost use Rattle.std.specs.Prelude.{◌≡◌, ◌++◌, ◌∷◌, [], false, IfOk, OnOk, codes, decimal};
-ghost use Rattle.nt_calls.specs.declared.call.Call as Call;
-ghost use Rattle.nt_calls.specs.declared.call.WaitCall as WaitCall;
-ghost use Rattle.nt_look.specs.Orders.{Calls};
+ghost use Rattle.std.specs.Prelude.{◌≡◌, ◌++◌, ◌∷◌, IfOk, OnOk, codes, decimal, map};
+ghost use Rattle.nt_calls.specs.declared.call.Act as Act;
 ghost use Rattle.nt_lanes.specs.Lanes.{asked};
-ghost use Rattle.nt_plans.specs.Gates.{after, after_all, after_beginning, after_if_named, before_line, beginning_of, has_passed, is_new, made_line, may_close_first, none_laid, opened_by, opening, taken_line, takes_if_first, takes_key, taking, wait_for, wait_line, with_line, with_passed};
+ghost use Rattle.nt_plans.specs.Gates.{after, after_all, after_beginning, after_if_named, before_line, beginning_of, has_passed, is_new, lost_with, made_line, may_close_first, none_laid, opened_by, opening, taken_line, takes_claim, takes_if_first, taking, wait_for, wait_line, with_line, with_passed};
 ghost use Rattle.nt_plans.specs.Kept.{does_of, item_of, laid_of};
 ghost use Rattle.std.specs.List.{fold};
 ghost use Rattle.std.specs.Option.{option_copied};
 
-use crate::items::{Does, Item, is_handle};
+use crate::items::{Does, Item, is_among, is_handle};
 use crate::line::{Line, no_lines, push_line};
-use nt_calls::{Call, WaitCall, WaitMode};
+use nt_calls::{Act, Call, WaitCall, WaitMode};
 use nt_lanes::{Ask, Plan};
 use nt_status::{Handle, Handles, INFINITE};
 use nt_wording::put_number;
 use std::alloc::{AllocError, Global};
 
-/// A late creation: its line, its caller, the handle that it gave, that of which it is another one, its gate, and its key.
+/// A late creation: its line, its caller, the handle that it gave, that of which it is another one, its gate, and its claim.
 #[derive(Clone, Copy)]
 pub struct Made {
     pub number: u64,
@@ -25,7 +23,7 @@ pub struct Made {
     pub handle: Handle,
     pub source: Option<Handle>,
     pub gate: Handle,
-    pub key: Handle,
+    pub claim: Handle,
 }
 
 /// A lane has passed a gate: it waited for it, or set it.
@@ -44,50 +42,50 @@ pub struct Laid {
     pub passed: Vec<Pass>,
 }
 
-/// How a wait for so many milliseconds goes.
-fn for_ms(ms: u32) -> WaitMode
-    ensures { (result.ms ≡ ms) × (result.alertable ≡ false) }
-{
-    WaitMode {
-        ms,
-        alertable: false,
-    }
-}
-
-/// A wait for one object.
-fn wait_one(alloc: Global, object: Handle, ms: u32) -> Ask
-    ensures { asked result ≡ Calls (Call.Wait (WaitCall.Objects false (record { ms = ms; alertable = false }) (object ∷ []))) }
-{
-    Ask::Call(Call::Wait(WaitCall::Objects {
-        all: false,
-        mode: for_ms(ms),
-        handles: Handles::from_one(alloc, object),
-    }))
-}
-
 /// A wait for the gate, without end.
 fn wait_for(alloc: Global, gate: Handle) -> Ask
     ensures { asked result ≡ wait_for gate }
 {
-    wait_one(alloc, gate, INFINITE)
-}
-
-/// The key is taken, if it still stands.
-fn taking(alloc: Global, key: Handle) -> Ask
-    ensures { asked result ≡ taking key }
-{
-    wait_one(alloc, key, 0)
-}
-
-/// The gate is set, and the key is waited for, in one step.
-fn opening(gate: Handle, key: Handle) -> Ask
-    ensures { asked result ≡ opening gate key }
-{
-    Ask::Call(Call::Wait(WaitCall::Swap {
-        signal: gate,
-        object: key,
-        mode: for_ms(INFINITE),
+    Ask::Call(Call::Wait(WaitCall::Objects {
+        all: false,
+        mode: WaitMode {
+            ms: INFINITE,
+            alertable: false,
+        },
+        handles: Handles::from_one(alloc, gate),
     }))
+}
+
+/// What is lost of all late creations where this handle is not made.
+fn lost_with(alloc: Global, all: &[Made], handle: Handle) -> Result<Vec<Handle>, AllocError>
+    ensures { IfOk result (λ lost. lost.items ≡ lost_with all.now handle) }
+{
+    let mut lost = Vec::from_slice(alloc, &[handle])?;
+    for made in all {
+        if is_among(&lost, made.source) {
+            lost.extend_from_slice(&[made.handle, made.claim])?;
+        }
+    }
+    Ok(lost)
+}
+
+/// The claim is closed; if it stood, so are these.
+fn taking(alloc: Global, claim: Handle, lost: &[Handle]) -> Result<Ask, AllocError>
+    ensures { IfOk result (λ ask. asked ask ≡ taking claim lost.now) }
+{
+    let mut acts = Vec::from_slice(alloc, &[Act::Close(claim)])?;
+    for handle in lost {
+        acts.push(Act::Close(*handle))?;
+    }
+    Ok(Ask::Tries(acts))
+}
+
+/// The gate is set, and the claim is closed, in one step.
+fn opening(alloc: Global, gate: Handle, claim: Handle) -> Result<Ask, AllocError>
+    ensures { IfOk result (λ ask. asked ask ≡ opening gate claim) }
+{
+    let acts = Vec::from_slice(alloc, &[Act::SetEvent(gate), Act::Close(claim)])?;
+    Ok(Ask::Tries(acts))
 }
 
 /// Puts the comment that stands for a wait of this lane in a script.
@@ -109,7 +107,7 @@ fn put_made(out: &mut Vec<u8>, number: u64) -> Result<(), AllocError>
     out.extend_from_slice(b" goes here")
 }
 
-/// Puts the comment that stands for a key that is taken.
+/// Puts the comment that stands for a claim that is closed first.
 fn put_taken(out: &mut Vec<u8>, lane: u32, number: u64) -> Result<(), AllocError>
     ensures { OnOk result (out.new.items ≡ out.old.items ++ taken_line lane number) }
 {
@@ -133,7 +131,7 @@ fn line_of_wait(alloc: Global, number: u64, lane: u32, other: u64) -> Result<Lin
     })
 }
 
-/// The line of a key that is taken, before the line of this number.
+/// The line of a claim that is closed before the line of this number.
 fn line_of_taken(alloc: Global, number: u64, lane: u32, other: u64) -> Result<Line, AllocError>
     ensures { IfOk result (λ line. line.bytes.items ≡ taken_line lane other) }
 {
@@ -263,43 +261,67 @@ impl Laid {
         item.does.closes(made.source) && !self.has_passed(item.lane, made.gate)
     }
 
-    /// The line takes the key of the late creation.
-    fn take_key(&mut self, alloc: Global, item: &Item, made: &Made) -> Result<(), AllocError>
-        ensures { OnOk result (laid_of self.new ≡ takes_key (laid_of self.old) (item_of item.now) made.now) }
+    /// The line closes the claim of the late creation first, one of all these.
+    fn take_claim(
+        &mut self,
+        alloc: Global,
+        all: &[Made],
+        item: &Item,
+        made: &Made,
+    ) -> Result<(), AllocError>
+        ensures { OnOk result (laid_of self.new
+            ≡ takes_claim all.now (laid_of self.old) (item_of item.now) made.now) }
     {
         let line = line_of_taken(alloc, item.line.number, item.lane, made.number)?;
-        self.push(item.lane, taking(alloc, made.key), line)
+        let lost = lost_with(alloc, all, made.handle)?;
+        self.push(item.lane, taking(alloc, made.claim, &lost)?, line)
     }
 
     /// So it does if it may close first what that makes another handle of.
-    fn take_if_first(&mut self, alloc: Global, item: &Item, made: &Made) -> Result<(), AllocError>
-        ensures { OnOk result (laid_of self.new ≡ takes_if_first (item_of item.now) (laid_of self.old) made.now) }
+    fn take_if_first(
+        &mut self,
+        alloc: Global,
+        all: &[Made],
+        item: &Item,
+        made: &Made,
+    ) -> Result<(), AllocError>
+        ensures { OnOk result (laid_of self.new
+            ≡ takes_if_first all.now (item_of item.now) (laid_of self.old) made.now) }
     {
         if self.may_close_first(item, made) {
-            self.take_key(alloc, item, made)?;
+            self.take_claim(alloc, all, item, made)?;
         }
         Ok(())
     }
 
-    /// What the line does before it goes, for one late creation above it.
-    fn begin_line(&mut self, alloc: Global, item: &Item, made: &Made) -> Result<(), AllocError>
-        ensures { OnOk result (laid_of self.new ≡ before_line (item_of item.now) (laid_of self.old) made.now) }
+    /// What the line does before it goes, for one late creation above it, one of all these.
+    fn begin_line(
+        &mut self,
+        alloc: Global,
+        all: &[Made],
+        item: &Item,
+        made: &Made,
+    ) -> Result<(), AllocError>
+        ensures { OnOk result (laid_of self.new
+            ≡ before_line all.now (item_of item.now) (laid_of self.old) made.now) }
     {
         self.wait_if_named(alloc, item, made)?;
-        self.take_if_first(alloc, item, made)
+        self.take_if_first(alloc, all, item, made)
     }
 
-    /// The same for each of these.
+    /// The same for each of these creations.
     fn begin_for_each(
         &mut self,
         alloc: Global,
+        all: &[Made],
         above: &[Made],
         item: &Item,
     ) -> Result<(), AllocError>
-        ensures { OnOk result (laid_of self.new ≡ fold (before_line (item_of item.now)) (laid_of self.old) above.now) }
+        ensures { OnOk result (laid_of self.new
+            ≡ fold (before_line all.now (item_of item.now)) (laid_of self.old) above.now) }
     {
         for made in above {
-            self.begin_line(alloc, item, made)?;
+            self.begin_line(alloc, all, item, made)?;
         }
         Ok(())
     }
@@ -309,13 +331,15 @@ impl Laid {
         &mut self,
         alloc: Global,
         threads: u32,
+        all: &[Made],
         above: &[Made],
         item: &Item,
     ) -> Result<(), AllocError>
-        ensures { OnOk result (laid_of self.new ≡ after_all threads above.now (laid_of self.old) (item_of item.now)) }
+        ensures { OnOk result (laid_of self.new
+            ≡ after_all threads all.now above.now (laid_of self.old) (item_of item.now)) }
     {
         self.begin(alloc, threads, above, item)?;
-        self.begin_for_each(alloc, above, item)
+        self.begin_for_each(alloc, all, above, item)
     }
 
     /// The late creation on this line goes.
@@ -324,7 +348,7 @@ impl Laid {
         ensures { OnOk result (laid_of self.new ≡ opened_by (laid_of self.old) made.now) }
     {
         let line = line_of_made(alloc, line)?;
-        self.push(made.who, opening(made.gate, made.key), line)?;
+        self.push(made.who, opening(alloc, made.gate, made.claim)?, line)?;
         self.pass(made.who, made.gate)
     }
 }

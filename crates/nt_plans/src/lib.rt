@@ -3,17 +3,17 @@
 //!
 //! Each line is a creation, which is made first ([`Found::Start`]), or is asked of a lane ([`find_in`]). A creation after a call is a line of its
 //! thread too ([`Does::Makes`]): its gate, an event, is set there, and what names it in another thread waits for that ([`plan_all`]). A line
-//! that closes what it is made of takes its key first, and without that the creation waits for ever ([`Gates`], [`make_gates`]).
+//! that closes what it is made of closes its claim first, and without that the creation is refused ([`Gates`], [`make_gates`]).
 #![tactic(auto)]
 
+mod claims;
 mod items;
-mod keys;
 mod laying;
 mod line;
 mod planning;
 
+pub use claims::{put_closes, tries_of};
 pub use items::{Creation, Does, Ended, Found, Item, LaneFault, closed_by, find_in};
-pub use keys::{asks_for_key, note_awaited, refused_by};
 pub use laying::{Laid, Made, Pass};
-pub use line::{Line, line_of};
-pub use planning::{Gates, Kind, PlanFault, Planned, make_gates, plan_all};
+pub use line::{Line, bytes_at, line_of, put_whole};
+pub use planning::{Gates, Planned, make_gates, plan_all, race_of};

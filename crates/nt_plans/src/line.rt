@@ -1,6 +1,6 @@
 //! The lines of a script, by lanes.
-ghost use Rattle.std.specs.Prelude.{◌≡◌, ◌++◌, [], replicate, IfOk, OnOk};
-ghost use Rattle.nt_plans.specs.Gates.{with_text};
+ghost use Rattle.std.specs.Prelude.{◌≡◌, ◌+◌, ◌++◌, ◌<◌, ◌^◌, [], replicate, slice_index_or, IfOk, IfSome, OnOk};
+ghost use Rattle.nt_plans.specs.Gates.{whole_line, with_text};
 ghost use Rattle.nt_plans.specs.Kept.{texts_of};
 
 use nt_lines::{first_word, text_of};
@@ -75,4 +75,29 @@ pub(crate) fn push_line(lines: &mut Vec<Vec<Line>>, lane: u32, line: Line) -> Re
     }
     lines[lane as usize].push(line)?;
     Ok(())
+}
+
+/// The lane's line at this place, as it stands.
+#[tactic(auto, using(crate::proofs::Lines::bytes_there))]
+pub fn bytes_at(lines: &[Vec<Line>], lane: u32, place: usize) -> Option<&[u8]>
+    ensures bytes { IfSome result (λ bytes.
+        bytes.now ≡ slice_index_or (slice_index_or (texts_of lines.now) lane []) place []) }
+    ensures few { IfSome result (λ bytes. place + 1 < 2 ^ 64) }
+{
+    if lane as usize >= lines.len() {
+        return None;
+    }
+    let own = lines[lane as usize].as_slice();
+    if place >= own.len() {
+        return None;
+    }
+    Some(own[place].bytes.as_slice())
+}
+
+/// Puts a line as it stands, with an LF.
+pub fn put_whole(out: &mut Vec<u8>, line: &[u8]) -> Result<(), AllocError>
+    ensures { OnOk result (out.new.items ≡ out.old.items ++ whole_line line.now) }
+{
+    out.extend_from_slice(line)?;
+    out.extend_from_slice(b"\n")
 }

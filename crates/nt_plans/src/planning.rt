@@ -1,11 +1,10 @@
 //! A script's lines are planned, with gates for late creations.
-ghost use Rattle.std.specs.Prelude.{◌≡◌, ◌++◌, ◌∷◌, [], count_by, length, map, false, true, IfErr, IfOk, None, OnOk, Some};
+ghost use Rattle.std.specs.Prelude.{◌≡◌, ◌≤◌, ◌++◌, ◌∷◌, [], count_by, if◌then◌else◌, length, map, true, IfOk, OnOk};
 ghost use Rattle.std.specs.List.{list_any};
 ghost use Rattle.nt_machine.specs.Dispatcher.{state};
-ghost use Rattle.nt_plans.specs.Gates.{ClosesIf, Gate, Gives, Key, Makes, MakesOne, MakesUnnamed, goes_last, is_late, is_named, is_race, makes, names, none_planned, planned_all, planned_on, race_of, races, unnamed_of};
-ghost use Rattle.nt_plans.specs.Kept.{IsFault, does_of, gates_of, item_of, kind_of, laid_of, planned_of};
+ghost use Rattle.nt_plans.specs.Gates.{ClosesIf, Gives, Makes, MakesOne, MakesUnnamed, all_made, goes_last, is_late, is_named, is_race, made_by, makes, names, none_planned, planned_all, planned_on, race_of, unnamed_of, with_made};
+ghost use Rattle.nt_plans.specs.Kept.{does_of, gates_of, item_of, planned_of};
 ghost use Rattle.nt_plans.specs.Lines.{AreGates};
-ghost use Rattle.nt_plans.specs.declared.planning.PlanFault.TheVariants.{Memory};
 
 use crate::items::{Does, Item, copy_of};
 use crate::laying::{Laid, Made};
@@ -13,7 +12,7 @@ use crate::line::Line;
 use nt_calls::{Act, Call};
 use nt_core::Core;
 use nt_grammar::handle_of;
-use nt_status::{Access, EventFlags, Handle, MAX_HANDLES};
+use nt_status::{EventFlags, Handle, MAX_HANDLES};
 use std::alloc::{AllocError, Global};
 
 /// What is planned so far, and the late creations above.
@@ -23,27 +22,11 @@ pub struct Planned {
     pub above: Vec<Made>,
 }
 
-/// Why lines are not planned.
-#[derive(Clone, Copy, Debug, PartialEq, Eq)]
-pub enum PlanFault {
-    /// This line gives a number that a line above it names.
-    Race { line: u64 },
-    /// Memory was refused.
-    Memory,
-}
-
-/// What is made for a late creation.
-#[derive(Clone, Copy)]
-pub enum Kind {
-    Gate,
-    Key,
-}
-
-/// The gates and keys, by late creation.
+/// The gates and claims, by late creation.
 #[derive(Drop)]
 pub struct Gates {
     pub gates: Vec<Handle>,
-    pub keys: Vec<Handle>,
+    pub claims: Vec<Handle>,
 }
 
 /// Makes what the act gives.
@@ -57,24 +40,11 @@ fn give(core: &mut Core, act: Act) -> Result<Handle, AllocError>
     }
 }
 
-/// Makes a key: an event that is set, with a handle that can only be waited for.
-fn make_key(core: &mut Core) -> Result<Handle, AllocError>
-    ensures { IfOk result (λ key. MakesOne Key (state core.old) key (state core.new)) }
+/// Makes a gate or a claim.
+fn make_one(core: &mut Core) -> Result<Handle, AllocError>
+    ensures { IfOk result (λ event. MakesOne (state core.old) event (state core.new)) }
 {
-    let event = give(core, Act::create_event(EventFlags::INITIAL_SET))?;
-    let key = give(core, Act::duplicate(event, Access::SYNCHRONIZE))?;
-    close(core, event)?;
-    Ok(key)
-}
-
-/// Makes a gate or a key.
-fn make_one(core: &mut Core, kind: Kind) -> Result<Handle, AllocError>
-    ensures { IfOk result (λ event. MakesOne (kind_of kind) (state core.old) event (state core.new)) }
-{
-    match kind {
-        Kind::Gate => give(core, Act::create_event(EventFlags::MANUAL_RESET)),
-        Kind::Key => make_key(core),
-    }
+    give(core, Act::create_event(EventFlags::MANUAL_RESET))
 }
 
 /// Whether one of these lines names the handle.
@@ -125,10 +95,9 @@ fn make_unnamed(
     core: &mut Core,
     alloc: Global,
     items: &[Item],
-    kind: Kind,
     count: usize,
 ) -> Result<Vec<Handle>, AllocError>
-    ensures made { IfOk result (λ unnamed. MakesUnnamed (kind_of kind) (map item_of items.now)
+    ensures made { IfOk result (λ unnamed. MakesUnnamed (map item_of items.now)
         (state core.old) unnamed.items (state core.new)) }
     ensures count { IfOk result (λ unnamed. length unnamed.items ≡ count) }
 {
@@ -137,30 +106,31 @@ fn make_unnamed(
         if unnamed.len() == count {
             return Ok(unnamed);
         }
-        let event = make_one(core, kind)?;
+        let event = make_one(core)?;
         keep_unnamed(core, &mut unnamed, items, event)?;
     }
     Err(AllocError)
 }
 
-/// Makes a gate and a key for each late creation among these lines.
+/// Makes a gate and a claim for each late creation among these lines.
 #[tactic(auto, using(crate::proofs::Lines::are_gates))]
 pub fn make_gates(core: &mut Core, alloc: Global, items: &[Item]) -> Result<Gates, AllocError>
     ensures { IfOk result (λ made. AreGates (state core.old) (map item_of items.now) (gates_of made) (state core.new)) }
 {
     let count = count_late(items);
-    let gates = make_unnamed(core, alloc, items, Kind::Gate, count)?;
-    let keys = make_unnamed(core, alloc, items, Kind::Key, count)?;
-    Ok(Gates { gates, keys })
+    let gates = make_unnamed(core, alloc, items, count)?;
+    let claims = make_unnamed(core, alloc, items, count)?;
+    Ok(Gates { gates, claims })
 }
 
-/// Whether the line makes something.
-fn makes(does: &Does) -> bool
-    ensures { result ≡ makes (does_of does.now) }
+/// 1 where the line makes something, else 0.
+fn makings(does: &Does) -> usize
+    ensures makes { result ≡ (if makes (does_of does.now) then 1 else 0) }
+    ensures one { result ≤ 1 }
 {
     match does {
-        Does::Asks(_) => false,
-        Does::Makes { .. } => true,
+        Does::Asks(_) => 0,
+        Does::Makes { .. } => 1,
     }
 }
 
@@ -168,7 +138,11 @@ fn makes(does: &Does) -> bool
 fn count_late(items: &[Item]) -> usize
     ensures { result ≡ count_by is_late (map item_of items.now) }
 {
-    items.iter().filter(|item| makes(&item.does)).count()
+    let mut count = 0;
+    for item in items {
+        count += makings(&item.does);
+    }
+    count
 }
 
 /// The line of a call or tick, in memory of its own.
@@ -182,8 +156,54 @@ fn line_of(line: &Line) -> Result<Line, AllocError>
     })
 }
 
+/// The late creation on this line, with the gate and the claim after those of the ones above it.
+fn made_by(
+    gates: &Gates,
+    above: &[Made],
+    item: &Item,
+    handle: Handle,
+    source: Option<Handle>,
+) -> Result<Made, AllocError>
+    ensures { IfOk result (λ made. made ≡ made_by (gates_of gates.now) above.now (item_of item.now) handle source) }
+{
+    let place = above.len();
+    let (Some(gate), Some(claim)) = (gates.gates.get(place), gates.claims.get(place)) else {
+        return Err(AllocError);
+    };
+    Ok(Made {
+        number: item.line.number,
+        who: item.lane,
+        handle,
+        source,
+        gate: *gate,
+        claim: *claim,
+    })
+}
+
+/// Adds the late creation on this line, if it is one.
+fn add_made(above: &mut Vec<Made>, gates: &Gates, item: &Item) -> Result<(), AllocError>
+    ensures { OnOk result (above.new.items ≡ with_made (gates_of gates.now) above.old.items (item_of item.now) (does_of item.now.does)) }
+{
+    if let Does::Makes { handle, source } = item.does {
+        let made = made_by(gates, above, item, handle, source)?;
+        above.push(made)?;
+    }
+    Ok(())
+}
+
+/// The late creations on these lines.
+fn all_made(alloc: Global, gates: &Gates, items: &[Item]) -> Result<Vec<Made>, AllocError>
+    ensures { IfOk result (λ all. all.items ≡ all_made (gates_of gates.now) (map item_of items.now)) }
+{
+    let mut all = Vec::new(alloc);
+    for item in items {
+        add_made(&mut all, gates, item)?;
+    }
+    Ok(all)
+}
+
 impl Planned {
-    /// The late creation on this line goes, with the gate and the key after those of the ones above it.
+    /// The late creation on this line goes.
     fn make(
         &mut self,
         alloc: Global,
@@ -195,18 +215,7 @@ impl Planned {
         ensures { OnOk result (planned_of self.new
             ≡ goes_last (gates_of gates.now) (planned_of self.old) (item_of item.now) (Makes handle source)) }
     {
-        let above = self.above.len();
-        let (Some(gate), Some(key)) = (gates.gates.get(above), gates.keys.get(above)) else {
-            return Err(AllocError);
-        };
-        let made = Made {
-            number: item.line.number,
-            who: item.lane,
-            handle,
-            source,
-            gate: *gate,
-            key: *key,
-        };
+        let made = made_by(gates, &self.above, item, handle, source)?;
         self.laid.open(alloc, &item.line, &made)?;
         self.above.push(made)?;
         Ok(())
@@ -225,72 +234,32 @@ impl Planned {
         }
     }
 
-    /// Whether the line gives a number that a line above it names.
-    fn is_race(&self, item: &Item) -> bool
-        ensures { result ≡ is_race (laid_of self.now.laid) (does_of item.now.does) }
-    {
-        match item.does {
-            Does::Asks(_) => false,
-            Does::Makes { handle, .. } => self.laid.plan.names(handle),
-        }
-    }
-
-    /// The line goes once it waited for what it has to; or it is a race, and that is answered.
-    fn follow(
-        &mut self,
-        alloc: Global,
-        threads: u32,
-        gates: &Gates,
-        item: &Item,
-    ) -> Result<bool, AllocError>
-        ensures race { IfOk result (λ race. race ≡ races threads (planned_of self.old) (item_of item.now)) }
-        ensures planned { IfOk result (λ race. race ≡ false
-            → planned_of self.new ≡ planned_on threads (gates_of gates.now) (planned_of self.old) (item_of item.now)) }
-    {
-        self.laid.begin_for_all(alloc, threads, &self.above, item)?;
-        if self.is_race(item) {
-            return Ok(true);
-        }
-        self.go(alloc, gates, item)?;
-        Ok(false)
-    }
-
-    /// The line is planned, unless it is a race.
+    /// The line goes once it waited for what it has to. All late creations are these.
     fn add(
         &mut self,
         alloc: Global,
         threads: u32,
         gates: &Gates,
+        all: &[Made],
         item: &Item,
-    ) -> Result<(), PlanFault>
-        ensures apart { OnOk result (races threads (planned_of self.old) (item_of item.now) ≡ false) }
-        ensures planned { OnOk result (planned_of self.new
-            ≡ planned_on threads (gates_of gates.now) (planned_of self.old) (item_of item.now)) }
-        ensures fault { IfErr result (IsFault (λ line. (line ≡ item.now.line.number)
-            × (races threads (planned_of self.old) (item_of item.now) ≡ true))) }
+    ) -> Result<(), AllocError>
+        ensures { OnOk result (planned_of self.new
+            ≡ planned_on threads (gates_of gates.now) all.now (planned_of self.old) (item_of item.now)) }
     {
-        match self.follow(alloc, threads, gates, item) {
-            Ok(false) => Ok(()),
-            Ok(true) => Err(PlanFault::Race {
-                line: item.line.number,
-            }),
-            Err(_) => Err(PlanFault::Memory),
-        }
+        self.laid
+            .begin_for_all(alloc, threads, all, &self.above, item)?;
+        self.go(alloc, gates, item)
     }
 }
 
 /// Nothing is planned yet.
-fn none_planned(alloc: Global, threads: u32) -> Result<Planned, PlanFault>
-    ensures planned { IfOk result (λ planned. planned_of planned ≡ none_planned threads) }
-    ensures fault { IfErr result (λ fault. fault ≡ Memory) }
+fn none_planned(alloc: Global, threads: u32) -> Result<Planned, AllocError>
+    ensures { IfOk result (λ planned. planned_of planned ≡ none_planned threads) }
 {
-    match Laid::new(alloc, threads) {
-        Ok(laid) => Ok(Planned {
-            laid,
-            above: Vec::new(alloc),
-        }),
-        Err(_) => Err(PlanFault::Memory),
-    }
+    Ok(Planned {
+        laid: Laid::new(alloc, threads)?,
+        above: Vec::new(alloc),
+    })
 }
 
 /// Plans these lines of so many threads.
@@ -299,17 +268,36 @@ pub fn plan_all(
     threads: u32,
     gates: &Gates,
     items: &[Item],
-) -> Result<Planned, PlanFault>
-    ensures planned { IfOk result (λ planned. planned_of planned ≡ planned_all threads (gates_of gates.now) (map item_of items.now)) }
-    ensures apart { IfOk result (λ planned. race_of threads (gates_of gates.now) (map item_of items.now) ≡ None) }
-    ensures fault { IfErr result (IsFault (λ line. race_of threads (gates_of gates.now) (map item_of items.now) ≡ Some line)) }
+) -> Result<Planned, AllocError>
+    ensures { IfOk result (λ planned. planned_of planned ≡ planned_all threads (gates_of gates.now) (map item_of items.now)) }
 {
+    let all = all_made(alloc, gates, items)?;
     let mut planned = none_planned(alloc, threads)?;
     for item in items {
-        match planned.add(alloc, threads, gates, item) {
-            Ok(()) => {}
-            Err(fault) => return Err(fault),
-        }
+        planned.add(alloc, threads, gates, &all, item)?;
     }
     Ok(planned)
+}
+
+/// Whether the line gives a number that one of these lines above it names.
+fn is_race(above: &[Item], does: &Does) -> bool
+    ensures { result ≡ is_race (map item_of above.now) (does_of does.now) }
+{
+    match does {
+        Does::Asks(_) => false,
+        Does::Makes { handle, .. } => is_named(above, *handle),
+    }
+}
+
+/// The number of the first line that gives a number which a line above it names.
+pub fn race_of(items: &[Item]) -> Option<u64>
+    ensures { result ≡ race_of (map item_of items.now) }
+{
+    for place in 0..items.len() {
+        let item = &items[place];
+        if is_race(&items[..place], &item.does) {
+            return Some(item.line.number);
+        }
+    }
+    None
 }

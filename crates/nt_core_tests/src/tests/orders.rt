@@ -13,9 +13,11 @@ use std::alloc::Global;
 enum Does {
     Takes(u32),
     Gives(u32),
+    /// Tries to release it, and then to close its handle.
+    Drops(u32),
 }
 
-use Does::{Gives, Takes};
+use Does::{Drops, Gives, Takes};
 
 /// A search, and what it comes to.
 struct Row {
@@ -52,6 +54,18 @@ const ORDERED: &[&[Does]] = &[
     &[Takes(4), Takes(5), Gives(5), Gives(4)],
     &[Takes(3), Takes(5), Gives(5), Gives(3)],
 ];
+
+/// A thread tries to drop a lock that it does not hold, so it keeps the handle, and waits for the lock.
+const DROPPED: &[Row] = &[Row {
+    name: "acts up to the first that is refused",
+    locks: 1,
+    lanes: &[&[Drops(2), Takes(2)], &[Takes(2)]],
+    most: 100,
+    states: 7,
+    steps: 7,
+    hangs: 2,
+    told: Told::Hangs(&[0, 0, 1], Some((&[0, 0, 1], 1))),
+}];
 
 /// Two locks that are crossed.
 const LOCKS: &[Row] = &[
@@ -190,30 +204,35 @@ impl Watcher for Learner {
     }
 }
 
-fn call_of(alloc: Global, does: Does) -> Result<Call, Refusal> {
+fn ask_of(alloc: Global, does: Does) -> Result<Ask, Refusal> {
     match does {
         Takes(lock) => {
             let mut handles = Handles::new(alloc);
             handles.push(Handle::new(lock))?;
-            Ok(Call::Wait(WaitCall::Objects {
+            Ok(Ask::Call(Call::Wait(WaitCall::Objects {
                 handles,
                 all: false,
                 mode: WaitMode {
                     ms: INFINITE,
                     alertable: false,
                 },
-            }))
+            })))
         }
-        Gives(lock) => Ok(Call::Act(Act::ReleaseMutex(Handle::new(lock)))),
+        Gives(lock) => Ok(Ask::Call(Call::Act(Act::ReleaseMutex(Handle::new(lock))))),
+        Drops(lock) => {
+            let mut acts = Vec::new(alloc);
+            acts.push(Act::ReleaseMutex(Handle::new(lock)))?;
+            acts.push(Act::Close(Handle::new(lock)))?;
+            Ok(Ask::Tries(acts))
+        }
     }
 }
 
 /// Adds to a lane what its thread does.
 fn add(alloc: Global, plan: &mut Plan, lane: u32, asks: &[Does]) -> Result<(), Refusal> {
     for does in asks {
-        let call = call_of(alloc, *does)?;
-        plan.add(lane, Ask::Call(call))
-            .map_err(|_| Refusal::Memory)?;
+        let ask = ask_of(alloc, *does)?;
+        plan.add(lane, ask).map_err(|_| Refusal::Memory)?;
     }
     Ok(())
 }
@@ -340,6 +359,11 @@ fn is_learned_at_last(
 #[test]
 fn crossed_locks_hang(rt: HostRuntime) {
     tells_just_this(&rt, LOCKS);
+}
+
+#[test]
+fn acts_are_tried_until_one_is_refused(rt: HostRuntime) {
+    tells_just_this(&rt, DROPPED);
 }
 
 #[test]

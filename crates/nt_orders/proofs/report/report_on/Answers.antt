@@ -12,7 +12,7 @@ returns-in-Ok g c =
     let plan : IsPlanOf _ (lanes_of script) s = subst (λ (bytes : List ℕ). IsPlanOf bytes (lanes_of script) s) c.before_zero-lines.ensures c.in_ok-script.ensures.plan in
     let found = c.findings.ensures in
     outcome_of c.args.most _ (lanes_of script) s _ _ c.in-Ok.explored plan c.in-Ok.ensures.verdict c.in-Ok.ensures.searched c.findings.result
-    found.code found.order found.none found.fault
+    found.code found.order found.fault
 
 pub returns : goal.returns
 returns g c =

@@ -8,7 +8,7 @@ use Rattle.nt_plans.proofs.laying.Laid.begin_for_each.Goals as goal
 
 pub loop-made-preserved : goal.loop-made-preserved
 loop-made-preserved c =
-    let step : Laid → Made → Laid = before_line (item_of c.args.item.now) in
+    let step : Laid → Made → Laid = before_line c.args.all.now (item_of c.args.item.now) in
     let start : Laid = laid_of c.args.self.now in
     let before : Laid = fold step start (take c.loop-made.made-index c.args.above.now) in
     c.in_ok-begin_line.ensures ∙ (ap (λ (laid : Laid). step laid c.made-item.result) c.loop-made.invariant

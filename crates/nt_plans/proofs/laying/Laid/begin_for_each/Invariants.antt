@@ -5,4 +5,4 @@ use Rattle.nt_plans.specs.Kept.{item_of, laid_of}
 use Rattle.nt_plans.proofs.laying.Laid.begin_for_each.Given as goal
 
 abbrev pub invariant-loop-made : goal.invariant-loop-made
-invariant-loop-made l = laid_of l.self ≡ fold (before_line (item_of l.item)) (laid_of l.fn.self) (take l.made-index l.above)
+invariant-loop-made l = laid_of l.self ≡ fold (before_line l.all (item_of l.item)) (laid_of l.fn.self) (take l.made-index l.above)
