@@ -89,7 +89,7 @@ NTW_INTERNAL uint32_t close_number(struct seat *caller, uint32_t number)
         forget_past(number);
     } else if (kind_of(number) == KIND_THREAD && waiting.seats[thread_of(number)].has_left) {
         ntw_note(caller);
-        renew_seats();
+        renew_seats_to(&waiting.seats[thread_of(number)]);
     }
     return 0;
 }

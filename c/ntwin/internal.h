@@ -185,7 +185,7 @@ enum { LEAVING_ROUNDS = PTHREAD_DESTRUCTOR_ITERATIONS - 1 };
 NTW_VARIABLE char rounds[LEAVING_ROUNDS];
 
 NTW_INTERNAL void name_thread(uint32_t number, const struct seat *seat);
-NTW_INTERNAL void renew_seats(void);
+NTW_INTERNAL void renew_seats_to(const struct seat *seat);
 NTW_INTERNAL struct seat *take_seat(void);
 NTW_INTERNAL void give_seat(struct seat *seat);
 NTW_INTERNAL void leave(struct seat *seat);

@@ -21,14 +21,38 @@ static void add_spare(struct seat *seat, uint32_t handle)
     waiting.spare = seat;
 }
 
-/* Threads begin, under the lock, in the places of those that have left and that no handle names any longer. What the last call reported was noted. */
-NTW_INTERNAL void renew_seats(void)
+/* A thread begins, under the lock, in the first place of one that has left and that nothing names any longer. What the last call reported was noted.
+ * Answers whether there is such a place: if not, each was looked at. */
+static bool renew_first_seat(void)
 {
     struct nt_begun begun;
-    while (waiting.ended > 0 && nt_begin(&waiting.dispatcher, &begun) == 0) {
-        waiting.ended--;
-        add_spare(&waiting.seats[begun.thread], begun.handle);
-    }
+    if (waiting.ended == 0 || nt_begin(&waiting.dispatcher, &begun) != 0)
+        return false;
+    waiting.ended--;
+    add_spare(&waiting.seats[begun.thread], begun.handle);
+    return true;
+}
+
+/* The same in each such place. */
+static void renew_seats(void)
+{
+    while (renew_first_seat())
+        continue;
+}
+
+/* Whether nothing names this thread any longer, which has left, under the lock: no handle, and no wait that pends. */
+static bool is_unnamed(const struct seat *seat)
+{
+    struct nt_object object;
+    return nt_object(&waiting.dispatcher, seat->number, &object) == 0 && object.kind == NT_GONE;
+}
+
+/* A name of this thread, which has left, is gone, under the lock: if it was the last, threads begin in the places up to its own. (So none is looked
+ * for in vain. One whose last name was a wait is found with one behind it, or once each place is taken.) */
+NTW_INTERNAL void renew_seats_to(const struct seat *seat)
+{
+    while (is_unnamed(seat) && renew_first_seat())
+        continue;
 }
 
 /* Whether the program has an open handle with this number, under the lock. (A thread's own handle was given to nobody.) */
@@ -71,8 +95,11 @@ static void leave_closed_handle(void)
 /* Each place is taken, under the lock: that of a thread which has left is made free, though handles name the thread. */
 static void make_place(void)
 {
-    if (waiting.ended > 0)
+    if (waiting.ended > 0) {
         give_numbers_again("each thread's number was used once");
+        if (!waiting.gives_once)
+            leave_closed_handle();
+    }
     renew_seats();
     struct past *past = waiting.spare == NULL ? calloc(1, sizeof *past) : NULL;
     if (past == NULL)
@@ -81,10 +108,7 @@ static void make_place(void)
         waiting.tried = (waiting.tried + 1) % waiting.places;
         struct seat *seat = &waiting.seats[waiting.tried];
         if (seat->has_left && set_aside(seat, past)) {
-            renew_seats();
-            if (waiting.spare == NULL)
-                leave_closed_handle();
-            renew_seats();
+            renew_seats_to(seat);
             return;
         }
     }
@@ -153,7 +177,7 @@ NTW_INTERNAL void leave(struct seat *seat)
         end_seat(seat);
         wake_all(seat->woken, wakes_left());
         STEP(word, NULL, Returns);
-        renew_seats();
+        renew_seats_to(seat);
         give_lock();
         return;
     }

@@ -284,11 +284,54 @@ static void threads_of_the_program(long count)
     IS(count, count);
 }
 
+/* Whether one thread's wait pends. */
+static BOOL one_waits(void)
+{
+    char text[32] = "";
+    FILE *file = tmpfile();
+    must(file != NULL);
+    ntwin_why(file);
+    rewind(file);
+    must(fgets(text, sizeof text, file) != NULL && fclose(file) == 0);
+    return strncmp(text, "ntwin: 1 thread waits", 21) == 0;
+}
+
+/* Two threads, of which one waits for the other and an event. */
+struct two {
+    HANDLE both[2];
+    DWORD who_waits;
+};
+
+static DWORD WINAPI wait_or_end(LPVOID at)
+{
+    const struct two *two = at;
+    return GetCurrentThreadId() == two->who_waits ? WaitForMultipleObjects(2, two->both, TRUE, INFINITE) : 0;
+}
+
+/* A thread has ended whose last name was a wait, which has ended too; who waited had a place before its own. */
+static void end_with_wait(void)
+{
+    static struct two two;
+    HANDLE threads[2], again;
+    for (int i = 0; i < 2; i++)
+        must((threads[i] = CreateThread(NULL, 65536, wait_or_end, &two, CREATE_SUSPENDED, NULL)) != NULL);
+    const int first = GetThreadId(threads[0]) > GetThreadId(threads[1]);
+    two = (struct two){ .both = { threads[!first], make_event() }, .who_waits = GetThreadId(threads[first]) };
+    must(DuplicateHandle(GetCurrentProcess(), two.both[1], GetCurrentProcess(), &again, 0, FALSE, DUPLICATE_SAME_ACCESS));
+    must(ResumeThread(threads[first]) == 1);
+    while (!one_waits())
+        Sleep(1);
+    must(ResumeThread(threads[!first]) == 1 && WaitForSingleObject(threads[!first], INFINITE) == WAIT_OBJECT_0);
+    must(CloseHandle(threads[!first]) && CloseHandle(two.both[1]) && SetEvent(again) && CloseHandle(again));
+    must(WaitForSingleObject(threads[first], INFINITE) == WAIT_OBJECT_0 && CloseHandle(threads[first]));
+}
+
 /* As many threads at once as there may be, again and again; one more is refused. */
 static void most_threads(int rounds)
 {
     static HANDLE threads[MOST_THREADS - 1];
     for (int round = 0; round < rounds; round++) {
+        end_with_wait();
         HANDLE gate = make_event();
         for (size_t i = 0; i < ARRAYSIZE(threads); i++)
             threads[i] = started(run_once, (uintptr_t)gate);
@@ -365,18 +408,6 @@ static void places(void)
 static DWORD WINAPI wait_for_both(LPVOID both)
 {
     return WaitForMultipleObjects(2, both, TRUE, INFINITE);
-}
-
-/* Whether one thread's wait pends. */
-static BOOL one_waits(void)
-{
-    char text[32] = "";
-    FILE *file = tmpfile();
-    must(file != NULL);
-    ntwin_why(file);
-    rewind(file);
-    must(fgets(text, sizeof text, file) != NULL && fclose(file) == 0);
-    return strncmp(text, "ntwin: 1 thread waits", 21) == 0;
 }
 
 /* What a pending wait names keeps its number, though no handle names it: no other object gets it, and the wait ends as it should. */

@@ -335,11 +335,65 @@ static void exit_codes(void)
     stepped.before = NULL;
 }
 
+/* ---- The place of a thread that has ended is looked for, which is a look at each, only once nothing names the thread. */
+
+static DWORD WINAPI end_after(LPVOID event)
+{
+    return WaitForSingleObject(event, INFINITE);
+}
+
+/* How often it was looked for since then, once no other thread has the lock. */
+static long sought_since(long before)
+{
+    take_lock();
+    const long sought = places_sought - before;
+    give_lock();
+    return sought;
+}
+
+/* A handle names the thread as it ends. */
+static void place_of_who_ends_first(void)
+{
+    const long before = places_sought;
+    seven_has_ended();
+    IS(sought_since(before), 0);
+    close_ended();
+    IS(sought_since(before), 1);
+    IS(waiting.spare == place, true);
+}
+
+static bool has_left(const struct seat *seat)
+{
+    take_lock();
+    const bool is_spare = waiting.spare == seat;
+    give_lock();
+    return is_spare;
+}
+
+/* None does. */
+static void place_of_who_ends_last(void)
+{
+    const long before = places_sought;
+    HANDLE event = CreateEvent(NULL, TRUE, FALSE, NULL), thread = CreateThread(NULL, 0, end_after, event, 0, NULL);
+    must(event != NULL && thread != NULL);
+    place = seat_of(listed_number_of(thread));
+    must(CloseHandle(thread));
+    IS(sought_since(before), 0);
+    must(SetEvent(event));
+    while (!has_left(place))
+        doze();
+    IS(sought_since(before), 1);
+    must(CloseHandle(event));
+}
+
 int main(void)
 {
     begin_pairs();
     sections_and_others();
     ports();
     exit_codes();
+    must(ntw_join() != NULL);
+    place_of_who_ends_first();
+    place_of_who_ends_last();
     return counted_checks();
 }

@@ -126,14 +126,18 @@ static void step_on(void)
         answer_of_call; \
     })
 
+/* How often the place of a thread that has left was looked for, which is a look at each place. */
+static long places_sought;
+
 /* The dispatcher's calls are not stepped through, which are some thousand instructions. */
 #define nt_tick(...) UNSTEPPED(nt_tick(__VA_ARGS__))
 #define nt_due(...) UNSTEPPED(nt_due(__VA_ARGS__))
 #define nt_told(...) UNSTEPPED(nt_told(__VA_ARGS__))
 #define nt_pend(...) UNSTEPPED(nt_pend(__VA_ARGS__))
 #define nt_exit(...) UNSTEPPED(nt_exit(__VA_ARGS__))
-#define nt_begin(...) UNSTEPPED(nt_begin(__VA_ARGS__))
+#define nt_begin(...) (places_sought++, UNSTEPPED(nt_begin(__VA_ARGS__)))
 #define nt_sleep(...) UNSTEPPED(nt_sleep(__VA_ARGS__))
+#define nt_object(...) UNSTEPPED(nt_object(__VA_ARGS__))
 #define nt_opened(...) UNSTEPPED(nt_opened(__VA_ARGS__))
 #define nt_next_apc(...) UNSTEPPED(nt_next_apc(__VA_ARGS__))
 #define nt_set_event(...) UNSTEPPED(nt_set_event(__VA_ARGS__))
