@@ -12,7 +12,7 @@ static PTP_WORK first, closing;
 static PTP_TIMER timer;
 static PTP_WAIT wait_object;
 static _Atomic bool is_busy, may_go_on;
-static _Atomic LONG ran;
+static _Atomic LONG ran, submitted;
 
 static void CALLBACK be_busy(PTP_CALLBACK_INSTANCE instance, PVOID none, PTP_WORK work)
 {
@@ -159,10 +159,56 @@ static void wait_and_close(void)
     CloseThreadpool(pool);
 }
 
+/* Its queue has two callbacks, of one task: so it keeps the latch from the first to the second. */
+static void with_two_in_queue(void)
+{
+    with_queue();
+    SubmitThreadpoolWork(first);
+}
+
+static void both_have_run(void)
+{
+    while (to_be_freed != NULL)
+        doze();
+    IS(ran, 2);
+}
+
+/* Of those two, what has not begun is dropped. */
+static void cancel_and_close(void)
+{
+    WaitForThreadpoolWorkCallbacks(first, TRUE);
+    submitted = ran;
+    CloseThreadpoolWork(first);
+    CloseThreadpool(pool);
+}
+
+static void no_more_have_run(void)
+{
+    while (to_be_freed != NULL)
+        doze();
+    IS(ran, submitted);
+}
+
+/* Its thread is apart from each of them: who waits does so for neither. */
+static void CALLBACK run_apart(PTP_CALLBACK_INSTANCE instance, PVOID none, PTP_WORK work)
+{
+    (void)none, (void)work;
+    DisassociateCurrentThreadFromCallback(instance);
+    ran++;
+}
+
+static void with_two_apart(void)
+{
+    open_pool();
+    first = CreateThreadpoolWork(run_apart, NULL, &environment);
+    pool->threads = 1, pool->expected = 1;
+    SubmitThreadpoolWork(first);
+    SubmitThreadpoolWork(first);
+}
+
 /* ---- A callback that is submitted to a group, beside who closes its members. */
 
 static PTP_CLEANUP_GROUP group;
-static _Atomic LONG submitted;
 
 static void CALLBACK run_simple(PTP_CALLBACK_INSTANCE instance, PVOID none)
 {
@@ -307,8 +353,10 @@ static void serve(PTP_POOL served)
     take_latch(&pools_latch);
     for (struct task *task; (task = take_callback(served, &outcome)) != NULL;) {
         give_latch(&pools_latch);
-        run_callback(task, outcome);
-        take_latch(&pools_latch);
+        if (run_callback(task, outcome)) {
+            settle_task(task);
+            take_latch(&pools_latch);
+        }
     }
     give_latch(&pools_latch);
 }
@@ -394,6 +442,9 @@ int main(void)
     timers.is_kept = true;
     callbacks_that_close();
     try_pair("a thread of a pool", with_queue, be_thread_of_pool, wait_and_close, pool_is_gone, 100);
+    try_pair("a thread of a pool, with two callbacks", with_two_in_queue, be_thread_of_pool, wait_and_close, both_have_run, 100);
+    try_pair("a thread of a pool, with two callbacks, canceled", with_two_in_queue, be_thread_of_pool, cancel_and_close, no_more_have_run, 50);
+    try_pair("a thread of a pool, apart from two callbacks", with_two_apart, be_thread_of_pool, wait_and_close, both_have_run, 100);
     try_pair("TrySubmitThreadpoolCallback", with_group, submit_to_group, close_members, group_has_run, 50);
     is_full = true;
     try_pair("TrySubmitThreadpoolCallback, without a thread", with_group, submit_to_group, close_members, group_has_run, 100);

@@ -172,8 +172,8 @@ static void call_program(struct task *task, PTP_CALLBACK_INSTANCE instance, uint
     own.end = before;
 }
 
-/* Runs one callback, which was taken. */
-static void run_callback(struct task *task, uint32_t outcome)
+/* Runs one callback, which was taken, and takes the latch. Answers whether its task is idle then, and to be settled. */
+static bool run_callback(struct task *task, uint32_t outcome)
 {
     struct _TP_CALLBACK_INSTANCE instance = { .task = task, .pool = task->pool };
     call_program(task, &instance, outcome);
@@ -181,11 +181,11 @@ static void run_callback(struct task *task, uint32_t outcome)
     if (!instance.is_apart && task->after != NULL)
         task->after(task);
     do_what_was_asked(&instance);
-    if (instance.is_apart)
-        return;
     take_latch(&pools_latch);
+    if (instance.is_apart)
+        return false;
     task->running--;
-    settle_task(task);
+    return is_without_callback(task);
 }
 
 /* A callback is to come, under the latch, which is given back: in a thread of the pool, or in the caller's. */
@@ -197,10 +197,12 @@ NTW_INTERNAL void call_back(struct task *task, uint32_t outcome, bool in_thread)
     else
         call = put_callback(task, outcome);
     give_latch(&pools_latch);
-    if (in_thread)
-        run_callback(task, outcome);
-    else
+    if (!in_thread)
         bring_thread(call);
+    else if (run_callback(task, outcome))
+        settle_task(task);
+    else
+        give_latch(&pools_latch);
 }
 
 /* Whether a callback in the queue has no thread that could come to it, under the latch. (Each that watches an object needs one to itself.) */
@@ -280,8 +282,10 @@ NTW_INTERNAL DWORD WINAPI work_in_pool(LPVOID at)
             PVOID calls = pool->first != NULL ? call_idle_thread(pool) : NULL;
             give_latch(&pools_latch);
             wake_called(calls);
-            run_callback(task, outcome);
-            take_latch(&pools_latch);
+            if (run_callback(task, outcome)) {
+                settle_task(task);
+                take_latch(&pools_latch);
+            }
         }
     } while ((!pool->is_closed || pool->tasks > 0) && !is_to_leave(pool) && wait_for_work(pool));
     leave_pool(pool);
