@@ -190,7 +190,7 @@ NTW_INTERNAL struct seat *take_seat(void);
 NTW_INTERNAL void give_seat(struct seat *seat);
 NTW_INTERNAL void leave(struct seat *seat);
 NTW_INTERNAL struct seat *ntw_join(void);
-NTW_INTERNAL bool join_those_who_are_gone(struct seat *caller);
+NTW_INTERNAL struct runner *join_those_who_are_gone(void);
 
 /* ---- calls.c */
 

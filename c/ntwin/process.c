@@ -77,30 +77,28 @@ static uint32_t seat_thread(struct seat *caller, struct seat **seat, struct nt_r
     return 0;
 }
 
+/* What the system's part of a new thread is known by, under the lock: that of one that is gone, where there is one. Null if memory is refused. */
+static struct runner *take_runner(void)
+{
+    struct runner *runner = join_those_who_are_gone();
+    return runner != NULL ? runner : calloc(1, sizeof *runner);
+}
+
 HANDLE CreateThread(LPSECURITY_ATTRIBUTES attributes, SIZE_T stack, LPTHREAD_START_ROUTINE start, LPVOID parameter, DWORD flags,
                     LPDWORD id)
 {
     struct nt_reply reply;
-    struct seat *seat;
+    struct seat *seat = NULL;
     (void)attributes;
     if (start == NULL || (flags & ~(CREATE_SUSPENDED | STACK_SIZE_PARAM_IS_A_RESERVATION)) != 0) {
         ntw_fail(ERROR_INVALID_PARAMETER);
         return NULL;
     }
-    struct seat *caller = ntw_join();
+    struct seat *caller = ntw_begin();
     if (caller == NULL)
         return NULL;
-    if (by_schedule())
-        skip_points(1); /* (What comes first tells the program nothing.) */
-    if (!join_those_who_are_gone(caller))
-        return NULL;
-    struct runner *runner = calloc(1, sizeof *runner);
-    if (runner == NULL) {
-        ntw_fail(ERROR_NOT_ENOUGH_MEMORY);
-        return NULL;
-    }
-    lock(caller);
-    const uint32_t refused = seat_thread(caller, &seat, &reply);
+    struct runner *runner = take_runner();
+    const uint32_t refused = runner != NULL ? seat_thread(caller, &seat, &reply) : ERROR_NOT_ENOUGH_MEMORY;
     HANDLE made = refused == 0 ? give_handle(reply.number) : NULL;
     if (!ntw_finish(caller, refused)) {
         free(runner);

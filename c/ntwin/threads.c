@@ -348,20 +348,20 @@ NTW_INLINE struct seat *ntw_join(void)
     return seat != NULL ? seat : join_first();
 }
 
-/* Joins the threads of CreateThread that are gone. It waits for none: who has left may still run destructors. False as `take_lock_for` has it. */
-NTW_INTERNAL bool join_those_who_are_gone(struct seat *caller)
+/* Joins the threads of CreateThread that are gone, under the lock. It waits for none: who has left may still run destructors. Answers what the last one
+ * of them was known by, which is the caller's then; null where none is gone. */
+NTW_INTERNAL struct runner *join_those_who_are_gone(void)
 {
-    if (!take_lock_for(caller))
-        return false;
+    struct runner *gone = NULL;
     for (struct runner **at = &waiting.left, *runner; (runner = *at) != NULL;)
         if (pthread_tryjoin_np(runner->thread, NULL) != EBUSY) {
             *at = runner->next;
-            free(runner);
+            free(gone);
+            gone = runner;
         } else {
             at = &runner->next;
         }
-    give_lock_for(caller);
-    return true;
+    return gone;
 }
 
 /* Joins a thread that is gone by this moment of the monotonic clock. Answers whether it is. (pthread_timedjoin_np goes by a clock that may be set, and

@@ -28,7 +28,6 @@ enum { is_scheduled = false, notes_touches = false };
 #define schedule_thread(seat) ((void)0)
 #define unschedule_thread(seat) ((void)0)
 #define begin_scheduled(seat) ((void)0)
-#define skip_points(count) ((void)(count))
 #define end_with_knot(text) ((void)(text))
 #define scheduled_number(seat) (seat)
 #define begin_schedule(asked) ((void)(asked))
@@ -54,7 +53,6 @@ NTW_INTERNAL uint64_t scheduled_time(void);
 NTW_INTERNAL void schedule_thread(const struct seat *seat);
 NTW_INTERNAL void unschedule_thread(const struct seat *seat);
 NTW_INTERNAL void begin_scheduled(const struct seat *seat);
-NTW_INTERNAL void skip_points(uint32_t count);
 NTW_INTERNAL void end_with_knot(char *text);
 NTW_INTERNAL uint32_t scheduled_number(uint32_t seat);
 NTW_INTERNAL void begin_schedule(const char *asked);

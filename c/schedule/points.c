@@ -214,12 +214,6 @@ NTW_INTERNAL void leave_turns(void)
     schedule.ended = real_moment();
 }
 
-__attribute__((noinline, cold)) NTW_INTERNAL void skip_points(uint32_t count)
-{
-    if (me != NULL && !is_apart())
-        me->skips += count;
-}
-
 /* ---- Sleeps. */
 
 __attribute__((noinline, cold)) NTW_INTERNAL void sleep_scheduled(const _Atomic uint32_t *word, uint32_t seen, const struct timespec *until, uint32_t bits)

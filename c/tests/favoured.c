@@ -6,7 +6,16 @@
 #define LEAST_PATIENCE 2
 #define MOST_PATIENCE 16
 #define TURNS_THAT_PAY 8
+#define NTWIN_ONE_UNIT /* (as ntwin.c has it) */
+#include "../ntwin/inside.h"
+
+/* What the system refuses: threads, and memory. */
+static bool refuses_threads, refuses_memory;
+#define pthread_create(thread, attributes, start, argument) (refuses_threads ? EAGAIN : pthread_create(thread, attributes, start, argument))
+#define calloc(count, size) (refuses_memory ? NULL : calloc(count, size))
 #include "../ntwin.c"
+#undef calloc
+#undef pthread_create
 
 #define counted counted_checks /* (ntwin.c has another.) */
 #include "check.h"
@@ -131,10 +140,57 @@ static bool is_favoured_alone(void)
     return lock_is(FAVOURS + seat->number) && me.favoured > 0;
 }
 
+static DWORD WINAPI end_at_once(LPVOID none)
+{
+    (void)none;
+    return 0;
+}
+
+/* A creation that is refused takes the lock so often, and has given it back; no thread has a place of it. */
+static void is_refused(uint32_t takes)
+{
+    const uint32_t turns = own.seat->turns;
+    SetLastError(0);
+    IS(CreateThread(NULL, 0, end_at_once, NULL, 0, NULL) == NULL, true);
+    IS(GetLastError(), ERROR_NOT_ENOUGH_MEMORY);
+    IS(own.seat->turns - turns, process.has_barriers ? takes : 0);
+    IS(inside_of(own.seat) == 0 && !takes_lock(own.seat), true);
+    IS(waiting.alive, 1);
+}
+
+/* A creation takes the lock once, and once more where the system has no thread. The caller is favoured, so its turns are counted. */
+static void creations_are_refused(void)
+{
+    refuses_memory = true;
+    is_refused(1);
+    refuses_memory = false, refuses_threads = true;
+    is_refused(2);
+    refuses_threads = false;
+}
+
+static void has_ended(HANDLE thread)
+{
+    IS(WaitForSingleObject(thread, INFINITE), WAIT_OBJECT_0);
+    IS(CloseHandle(thread), TRUE);
+}
+
+/* Once a thread is gone another is made without memory. */
+static void creation_after_another(void)
+{
+    HANDLE next = NULL;
+    has_ended(CreateThread(NULL, 0, end_at_once, NULL, 0, NULL));
+    refuses_memory = true;
+    for (int i = 0; i < 100000 && (next = CreateThread(NULL, 0, end_at_once, NULL, 0, NULL)) == NULL; i++)
+        usleep(100);
+    refuses_memory = false;
+    has_ended(next);
+}
+
 int main(void)
 {
     pthread_t threads[THREADS], reader;
     IS(is_favoured_alone(), process.has_barriers);
+    creations_are_refused();
     must(pthread_create(&reader, NULL, read_words, NULL) == 0);
     for (uintptr_t i = 0; i < THREADS; i++)
         must(pthread_create(&threads[i], NULL, live_often, (void *)(i + 1)) == 0);
@@ -146,6 +202,7 @@ int main(void)
     IS(FAVOURED > 0, process.has_barriers);
     IS(FAVOURS_LOST > 0, process.has_barriers);
     IS(LATER >= THREADS * (LIVES - 1), true);
+    creation_after_another();
     IS(waiting.alive, 1); /* the first */
     return counted();
 }

@@ -148,6 +148,25 @@ static bool has_told(void)
     return has_locked && lock_is(FREE);
 }
 
+static HANDLE made;
+
+static DWORD WINAPI end_at_once(LPVOID none)
+{
+    (void)none;
+    return 0;
+}
+
+static void create_thread(void)
+{
+    must((made = CreateThread(NULL, 0, end_at_once, NULL, 0, NULL)) != NULL);
+}
+
+static void look_at_made(void)
+{
+    must(WaitForSingleObject(made, INFINITE) == WAIT_OBJECT_0 && CloseHandle(made));
+    look_at_others();
+}
+
 /* ---- A handler that posts a packet, submits work, or sets a timer. */
 
 static HANDLE port;
@@ -308,6 +327,7 @@ int main(void)
     interrupt("SetEvent", call_once, set_mine, nothing);
     interrupt("SetEvent, the first call of a thread", NULL, set_mine, nothing);
     interrupt("WaitForSingleObject", call_once, wait_for_mine, set_mine);
+    interrupt_by(set_others, look_at_made, "CreateThread", call_once, create_thread, nothing);
     passes_over = has_told;
     interrupt("ntwin_why", call_once, tell_why, nothing);
     interrupt("ntwin_why, by a thread that has not called", NULL, tell_why, nothing);

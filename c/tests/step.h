@@ -139,6 +139,7 @@ static long places_sought;
 #define nt_sleep(...) UNSTEPPED(nt_sleep(__VA_ARGS__))
 #define nt_object(...) UNSTEPPED(nt_object(__VA_ARGS__))
 #define nt_opened(...) UNSTEPPED(nt_opened(__VA_ARGS__))
+#define nt_duplicate(...) UNSTEPPED(nt_duplicate(__VA_ARGS__))
 #define nt_next_apc(...) UNSTEPPED(nt_next_apc(__VA_ARGS__))
 #define nt_set_event(...) UNSTEPPED(nt_set_event(__VA_ARGS__))
 #define nt_wait_object(...) UNSTEPPED(nt_wait_object(__VA_ARGS__))
