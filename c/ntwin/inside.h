@@ -80,6 +80,7 @@
 #ifndef STEP
 #define STEP(protocol, word, ...) ((void)0)               /* the thread's last step on this word; null: it does nothing on any */
 #define STEP_OF(seat, protocol, word, ...) ((void)0)      /* the same, the first of what this seat's thread does */
+#define STEP_OF_LEAVER(protocol, word, ...) ((void)0)     /* the same of a thread that ends: its seat may be another's before its last step */
 #define STEP_NEXT(seat) ((void)0)                         /* this seat's thread is to take the lock */
 #define STEP_AS(protocol, name, other) ((void)0)          /* the thread's next step of this name is that other one */
 #define STEP_BEYOND(protocol, ...) ((void)0)              /* another thread has passed a barrier: no step if it is the same thread */

@@ -158,15 +158,14 @@ static void end_seat(struct seat *seat)
     own.has_left = true;
 }
 
-/* The thread ends, for the dispatcher: its mutexes are abandoned, and who waits for it is granted; those are woken before the lock is given
- * back, since the seat may be another thread's then. One that was canceled in the middle of a wait can't end, and a watcher may have to look
- * at the time in its place. */
+/* The thread ends, for the dispatcher: its mutexes are abandoned, and who waits for it is granted. One that was canceled in the middle of a wait can't
+ * end, and a watcher may have to look at the time in its place. */
 NTW_INTERNAL void leave(struct seat *seat)
 {
     may_switch_before_call();
     set_takes_lock(seat, true);
     take_lock();
-    STEP_OF(seat, word, NULL, Enters);
+    STEP_OF_LEAVER(word, NULL, Enters);
     see_to_the_overdue(seat);
     if (nt_close_handle(&waiting.dispatcher, seat->number, seat->handle, &seat->reply) == 0)
         ntw_note(seat);
@@ -175,10 +174,7 @@ NTW_INTERNAL void leave(struct seat *seat)
         ntw_note(seat);
         look_for_timers();
         end_seat(seat);
-        wake_all(seat->woken, wakes_left());
-        STEP(word, NULL, Returns);
-        renew_seats_to(seat);
-        give_lock();
+        unlock_and_leave(seat);
         return;
     }
     if (nt_woke(&waiting.dispatcher, seat->number) == 0) {

@@ -166,7 +166,7 @@ NTW_ALWAYS_INLINE bool lock(struct seat *caller)
 }
 
 /* How many sleeping threads the caller's call has to wake, under the lock. From now on the caller wakes them. */
-NTW_INTERNAL uint32_t wakes_left(void)
+static uint32_t wakes_left(void)
 {
     const uint32_t wakes = waiting.wakes;
     waiting.wakes = 0;
@@ -174,7 +174,7 @@ NTW_INTERNAL uint32_t wakes_left(void)
 }
 
 /* Wakes those whose words the caller's call has written. */
-__attribute__((noinline)) NTW_INTERNAL void wake_all(const uint32_t *woken, uint32_t wakes)
+__attribute__((noinline)) static void wake_all(const uint32_t *woken, uint32_t wakes)
 {
     for (uint32_t i = 0; i < wakes; i++) {
         TO_WAKE(word, &waiting.seats[woken[i]].word, Wakes, Wakes, woken[i]);
@@ -204,6 +204,18 @@ NTW_ALWAYS_INLINE void unlock_and_wake(struct seat *caller)
         unlock_and_wake_all(caller);
     else
         give_lock_for(caller);
+    STEP(word, NULL, Returns);
+}
+
+/* The thread has ended, for the dispatcher, under the lock: gives that back, and wakes those whom this granted. */
+NTW_INTERNAL void unlock_and_leave(struct seat *seat)
+{
+    const uint32_t wakes = wakes_left();
+    uint32_t woken[WOKEN_LATER]; /* (The seat may be another thread's once the lock is given back.) */
+    memcpy(woken, seat->woken, wakes * sizeof *woken);
+    renew_seats_to(seat);
+    give_lock();
+    wake_all(woken, wakes);
     STEP(word, NULL, Returns);
 }
 

@@ -13,7 +13,12 @@
 static bool refuses_threads, refuses_memory;
 #define pthread_create(thread, attributes, start, argument) (refuses_threads ? EAGAIN : pthread_create(thread, attributes, start, argument))
 #define calloc(count, size) (refuses_memory ? NULL : calloc(count, size))
+
+/* The caller calls the system: where it is a thread that ends, it wakes others. */
+static void note_call_of_system(void);
+#define syscall(...) (note_call_of_system(), syscall(__VA_ARGS__))
 #include "../ntwin.c"
+#undef syscall
 #undef calloc
 #undef pthread_create
 
@@ -168,6 +173,56 @@ static void creations_are_refused(void)
     refuses_threads = false;
 }
 
+/* A thread that ends wakes who waits for it once it has given the lock back. (Meanwhile nobody else takes it: the process has but these two threads,
+ * and the first, which joins one of them.) */
+static _Atomic uint32_t wakes_of_leavers, wakes_under_lock;
+static HANDLE leaver;
+static _Atomic(struct seat *) waiter_for_leaver;
+
+static void note_call_of_system(void)
+{
+    wakes_of_leavers += own.has_left;
+    wakes_under_lock += own.has_left && !lock_is(FREE);
+}
+
+static void *wait_for_leaver(void *none)
+{
+    waiter_for_leaver = ntw_join();
+    must(WaitForSingleObject(leaver, INFINITE) == WAIT_OBJECT_0);
+    return none;
+}
+
+static void *leave_once_waited_for(void *none)
+{
+    must(DuplicateHandle(CURRENT_PROCESS, CURRENT_THREAD, CURRENT_PROCESS, &leaver, 0, FALSE, DUPLICATE_SAME_ACCESS));
+    pthread_t waiter;
+    must(pthread_create(&waiter, NULL, wait_for_leaver, NULL) == 0);
+    while (waiter_for_leaver == NULL || atomic_load(&waiter_for_leaver->word) != IS_ASLEEP)
+        usleep(100);
+    must(pthread_detach(waiter) == 0);
+    return none;
+}
+
+static bool is_alone_in_dispatcher(void)
+{
+    take_lock();
+    const bool is = waiting.alive == 1;
+    give_lock();
+    return is;
+}
+
+static void leavers_wake_without_lock(void)
+{
+    pthread_t thread;
+    wakes_of_leavers = wakes_under_lock = 0;
+    must(pthread_create(&thread, NULL, leave_once_waited_for, NULL) == 0 && pthread_join(thread, NULL) == 0);
+    IS(wakes_of_leavers > 0, true);
+    IS(wakes_under_lock, 0);
+    IS(CloseHandle(leaver), TRUE);
+    while (!is_alone_in_dispatcher())
+        usleep(100);
+}
+
 static void has_ended(HANDLE thread)
 {
     IS(WaitForSingleObject(thread, INFINITE), WAIT_OBJECT_0);
@@ -202,6 +257,7 @@ int main(void)
     IS(FAVOURED > 0, process.has_barriers);
     IS(FAVOURS_LOST > 0, process.has_barriers);
     IS(LATER >= THREADS * (LIVES - 1), true);
+    leavers_wake_without_lock();
     creation_after_another();
     IS(waiting.alive, 1); /* the first */
     return counted();

@@ -313,10 +313,24 @@ static void find_code_where_end_is_known(void)
     must(!is_known || (endings[place->number].has_left && endings[place->number].code == 9));
 }
 
+static void end_to_wait(void)
+{
+    must(WaitForSingleObject(who_waits, INFINITE) == WAIT_OBJECT_0 && CloseHandle(who_waits));
+    waits_for_end = NULL;
+}
+
 static void end_to_be_waited_for(void)
 {
-    must(WaitForSingleObject(who_waits, INFINITE) == WAIT_OBJECT_0 && CloseHandle(who_waits) && CloseHandle(who_ends));
-    waits_for_end = NULL;
+    end_to_wait();
+    must(CloseHandle(who_ends));
+}
+
+/* The last handle of who ends is closed, and another may have its place, before it has woken who waits for it. */
+static void another_begins_there(void)
+{
+    must(CloseHandle(who_ends));
+    HANDLE next = CreateThread(NULL, 0, end_with, (LPVOID)8, 0, NULL);
+    must(next != NULL && WaitForSingleObject(next, INFINITE) == WAIT_OBJECT_0 && CloseHandle(next));
 }
 
 static void come_in_first(void)
@@ -331,6 +345,7 @@ static void exit_codes(void)
     is_of_lock = stepped.to_the_end = true;
     stepped.before = begin_to_be_waited_for;
     try_pair("a thread ends, and is waited for", nothing, nothing, find_code_where_end_is_known, end_to_be_waited_for, 100);
+    try_pair("a thread ends, and its place is another's", nothing, nothing, another_begins_there, end_to_wait, 100);
     is_of_lock = stepped.to_the_end = false;
     stepped.before = NULL;
 }

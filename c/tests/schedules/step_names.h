@@ -57,6 +57,7 @@ enum protocol { lock_protocol, word_protocol, park_protocol, PROTOCOLS };
 
 #define STEP(protocol, word, ...) name_step(protocol##_protocol, (word), (uint32_t[]){ __VA_ARGS__, 0 })
 #define STEP_OF(seat, protocol, word, ...) (run.runs->tells.is_thread[protocol##_protocol] = (seat)->number, STEP(protocol, word, __VA_ARGS__))
+#define STEP_OF_LEAVER(protocol, word, ...) (run.runs->tells.is_thread[protocol##_protocol] = number_of_leaver(), STEP(protocol, word, __VA_ARGS__))
 #define STEP_ON(address, protocol, word, ...) (name_address(address), STEP(protocol, word, __VA_ARGS__))
 #define STEP_NEXT(seat) (run.runs->tells.next_lock_thread = (seat)->number + 1)
 #define STEP_AS(protocol, name, other) (run.runs->tells.returns_as = (other))

@@ -7,6 +7,7 @@
 
 enum {
     SEATS_TOLD = 64,
+    LEAVERS_TOLD = 32, /* from here on these are no seats, but strands that end, as the words' protocol has it */
     THREADS_TOLD = SEATS_TOLD + MOST_STRANDS
 };
 
@@ -115,6 +116,15 @@ static size_t last_step_on(const volatile void *word)
         }
     }
     broken("a step has a name, and was not made");
+}
+
+/* Which thread of the words' protocol the strand is that ends: its seat may be another's before it has woken all. */
+static uint32_t number_of_leaver(void)
+{
+    const uint32_t strand = (uint32_t)(run.runs - run.strands);
+    if (strand >= SEATS_TOLD - LEAVERS_TOLD || waiting.seated > LEAVERS_TOLD)
+        broken("too many threads for the trace");
+    return LEAVERS_TOLD + strand;
 }
 
 static uint32_t other_of(enum step step, uint32_t other)
