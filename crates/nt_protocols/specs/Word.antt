@@ -2,12 +2,12 @@
 -- threads wait, tell others how their waits stand, and wake them.
 --
 -- Who tells does so under the lock, by an exchange, and then wakes those whose word said that they sleep: after it has given the lock back, but under
--- it if there are too many to remember (`tell`) or its thread ends (`leave`). Each of Grants, Calls and the halves of a look at the time is one step:
--- no two threads have the lock (specs/Lock.antt), and in here others' steps may come between these as they like. A thread's own plain stores to its
--- word are under the lock too. They have arrived before another thread has it, since it is given back by a locked instruction. futex_wait compares
--- and sleeps in one step of the kernel. The looks of `look` change nothing, and are no steps. What a handler of signals tells and wakes is a part of
--- the call that it interrupts. Not in here, but tested: a handler that calls between TurnsToSleep and its thread's next look at the time or answer
--- (c/tests/interrupted.c); a thread canceled in its wait, whose `leave` tells others; a seat that another thread gets; a forked child.
+-- it if there are too many to remember (`tell`). Each of Grants, Calls and the halves of a look at the time is one step: no two threads have the lock
+-- (specs/Lock.antt), and in here others' steps may come between these as they like. A thread's own plain stores to its word are under the lock too.
+-- They have arrived before another thread has it, since it is given back by a locked instruction. futex_wait compares and sleeps in one step of the
+-- kernel. The looks of `look` change nothing, and are no steps. What a handler of signals tells and wakes is a part of the call that it interrupts.
+-- Not in here, but tested: a handler that calls between TurnsToSleep and its thread's next look at the time or answer (c/tests/interrupted.c); a
+-- thread canceled in its wait, whose `leave` tells others; a seat that another thread gets; a forked child.
 use Rattle.std.specs.Prelude.{◌≡◌, ◌⊎◌, ℕ, ◌+◌, Bool, true, false, not, ◌&&◌, ◌||◌, if◌then◌else◌}
 use Rattle.nt_protocols.specs.Threads.{put, Step, when, Keeps}
 
