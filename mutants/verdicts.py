@@ -1,6 +1,6 @@
-"""What the verdict on a mutant rests on, and the sum under which its refusal is kept (proving/kept.py).
+"""What the verdict on a mutant and a crate's check rest on, and the sums under which a refusal and a check are kept (proving/kept.py).
 
-The sum is of the crate's own texts, of those that the mutant changes, and of what their words lead to: definitions (specs/) of the crates below it, and
+The sum of a mutant is of the crate's own texts, of those that the mutant changes, and of what their words lead to: definitions (specs/) of the crates below it, and
 the heads, with their contracts, of public functions of those that it uses. All else that those declare is in it too, but no proof, body or comment
 of a crate below. Of this repository's code it has what tries mutants and judges them.
 """
@@ -9,7 +9,7 @@ import os
 import re
 
 from crates import files_below
-from kept import JUDGES, bytes_of, sum_of, sum_of_kit
+from kept import JUDGES, bytes_of, sum_of, sum_of_files, sum_of_kit
 from sources import BETWEEN, blocks_in
 from words import words_of
 
@@ -99,3 +99,12 @@ def sum_of_mutant(edit):
     own, words = sum_of_own(edit.crate)
     words = words.union(*map(words_in, edit.lines.values())) & below(edit.crate)[1]
     return sum_of(own, sum_of_reached(edit.crate, words), *(part for path, text in sorted(edit.texts.items()) for part in (path, text)))
+
+
+def sum_of_check(crate):
+    """The sum of all that a crate's check rests on: its own files, its line and those of the crates below it, HANDLES, the kit, what judges, and what the
+    crates below define and declare. It has no proof, body or comment of these."""
+    texts = [crate.line, sum_of_files(crate.folder), bytes_of(f"{crate.folder}/../../HANDLES")]
+    for it in crate.below():
+        texts += [it.line, *(text for of_what in (definitions, heads) for path, _, part, _ in parts(it, of_what) for text in (path, part))]
+    return sum_of("a check", sum_of_kit(), *JUDGES_OF_MUTANTS, *texts)

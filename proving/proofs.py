@@ -19,6 +19,7 @@ from crates import text_of
 from kept import sum_of, sum_of_crate
 from lanes import Task, memory_of, run_all
 from rooms import OWN_WORK, fill_room
+from verdicts import sum_of_check
 
 # How long a program may run, and a test, in seconds.
 LIMIT, LIMIT_OF_TEST = 120, 60
@@ -44,7 +45,7 @@ class Proofs:
     def __init__(self, crates, rooms, progress, handles, kept=None, begin_with=None, tried=(), only_read=()):
         self.crates, self.rooms, self.progress, self.handles, self.begin_with = crates, rooms, progress, handles, begin_with
         self.kept, self.tried, self.only_read = kept, tried, only_read
-        self.checked, self.taken, self.failed, self.passed, self.as_kept, self.parts, self.held = 0, 0, [], [], [], {}, set()
+        self.checked, self.taken, self.failed, self.passed, self.as_kept, self.as_checked, self.parts, self.held = 0, 0, [], [], [], [], {}, set()
         self.used = {it.name for crate in crates.values() for it in crate.uses}
 
     def run(self, names, runs=True, checked=None):
@@ -160,9 +161,17 @@ class Proofs:
         self.progress.tell(f"{crate.name}: proved, {checked} modules checked, {taken} taken from work that was kept; {times}")
 
     def prove_and_build(self, crate, folder, checks):
-        """Proves the crate if `checks`, and builds it if it is a library that is used. It returns what each command said, by its name."""
+        """Proves the crate if `checks`, and builds it if it is a library that is used. It returns what each command said, by its name. A library is not
+        checked again where no more than bodies and proofs below it changed: its build proves what has to be, and is judged."""
+        is_built, total = crate.is_static or crate.name in self.used, sum_of_check(crate) if self.kept and checks else None
+        if is_built and total and self.kept.has_passed(total):
+            parts = {"lib": judge(build_library(crate, folder), self.handles)}
+            self.as_checked.append(crate.name)
+            return parts
         parts = {"check": prove(crate, folder, self.handles)} if checks else {}
-        if crate.is_static or crate.name in self.used:
+        if total:
+            self.kept.note_passed(total)
+        if is_built:
             parts["lib"] = build_library(crate, folder)
         return parts
 

@@ -38,7 +38,7 @@ verb=$1
 case $* in
 version) echo "$KIT"; exit 0 ;;
 *--only*) echo only=0 proved=0; [ $verb = refused ] || exit "$READS"; echo fn low::one: not proved ;;
-lib*) echo built > out/rlib/built ;;
+lib*) echo built > out/rlib/built; [ -z "$BUILT" ] || { echo "$BUILT"; exit; } ;;
 run*) printf '#!/bin/sh\\nread -r it < "%s"\\necho "$it"\\n' "$CALLED.number" > "out/${PWD##*/}"; chmod +x "out/${PWD##*/}" ;;
 test*) printf '#!/bin/sh\\n[ "$1" = --list ] && echo "one: test" && exit; exit "$TEST"\\n' > "out/${PWD##*/}_tests"; chmod +x "out/${PWD##*/}_tests" ;;
 esac
@@ -64,6 +64,8 @@ FILES = {
     "mutants/low.edits": "# gives_another\nfile: src/lib.rt\nold:     1\nnew:     wrong\n\n"
     "# private gives_more\nfile: src/lib.rt\nold:     2\nnew:     wrong\n",
 }
+# The same with a library between the other and the program.
+OVER = {"crates.txt": FILES["crates.txt"].replace("app:", "over: low\napp: over"), "crates/over/src/lib.rt": "pub fn three() -> usize\n{\n    3\n}\n"}
 # What a check may end with and say, none of which shows that a crate is proved.
 NOT_PROVED = [(0, ""), (0, "logic=not-proved functions=1"), (1, PROVED), (-9, PROVED), (0, f"warning: no call of `low::one` can be made\n{PROVED}")]
 NOT_PROVED += [(0, f"{PROVED[:-1]} {it}") for it in ("hides=1", "bugs=1", "foreign=1", "may-abort=1", "unheard-of=1", "main=Net", "may-wait=1")]
@@ -188,7 +190,7 @@ def kept(folder):
         for it in os.listdir(at):
             write(f"{at}/{it}/{path}", text)
         passed, failed, said, checks = ran(folder)
-        yield (passed, failed, checks) == (5, [], 1) and "low: what was kept of it was changed or cut short" in said
+        yield (passed, failed, checks) == (5, [], 0) and "low: what was kept of it was changed or cut short" in said and "1 of them by their build" in said
     os.environ["TEST"] = "1"
     yield ran(folder)[1] == ["rows"]
     os.environ["TEST"] = "0"
@@ -203,6 +205,21 @@ def kept(folder):
     os.environ["KIT"] = "another kit"
     sum_of_kit_of.cache_clear()
     yield ran(folder)[::3] == (5, 4)
+
+
+def over_contracts(folder):
+    """A library is built and not checked where a body below it changed, or a comment; its build has to prove it. What is declared below is checked."""
+    text = FILES["crates/low/src/lib.rt"]
+    yield ran(folder, beside=OVER)[::3] == (6, 5)
+    os.environ["BUILT"] = "logic=not-proved functions=1"
+    yield ran(folder, beside=OVER, lib_rt=text.replace("    2", "    8 / 4"))[1] == ["app", "low/gives_another", "over"]
+    os.environ["BUILT"] = ""
+    declared = f"{text}\npub const THREE: usize = 3;\n"
+    for by_build, changed in ((1, text.replace("    2", "    6 / 3")), (1, f"// One.\n{text}"), (0, text.replace("two()", "two(it: usize)")), (0, declared)):
+        passed, failed, said, checks = ran(folder, beside=OVER, lib_rt=changed)
+        yield (passed, failed, checks) == (6, [], 5 - by_build) and f"crates were proved, {by_build} of them by their build" in said
+    yield ran(folder, beside={**OVER, "crates/low/specs/One.antt": "abbrev pub one : Nat\none = 1\n"})[::3] == (6, 5)
+    yield ran(folder, is_all=True, beside=OVER)[::3] == (7, 6)
 
 
 def merged(folder):
@@ -310,11 +327,11 @@ def as_a_whole(folder):
 def run(progress):
     """Runs the scenes, each in a folder of its own, with nothing of this machine's kit and of what is kept."""
     passed, failed = 0, []
-    for scene in (judged, not_proved, kept, merged, taken, laid_out, told, beside, as_a_whole):
+    for scene in (judged, not_proved, kept, over_contracts, merged, taken, laid_out, told, beside, as_a_whole):
         with tempfile.TemporaryDirectory() as folder, contextlib.ExitStack() as stack:
             write(f"{folder}/bin/rt", RT, 0o755)
             write(f"{folder}/called.number", "9\n")
-            stack.enter_context(unittest.mock.patch.dict(os.environ, {"XDG_CACHE_HOME": f"{folder}/cache", "CALLED": f"{folder}/called", "KIT": "a kit of scenes", "TEST": "0", "READS": "0"}))
+            stack.enter_context(unittest.mock.patch.dict(os.environ, {"XDG_CACHE_HOME": f"{folder}/cache", "CALLED": f"{folder}/called", "KIT": "a kit of scenes", "TEST": "0", "READS": "0", "BUILT": ""}))
             stack.enter_context(unittest.mock.patch.object(kit, "find_rt", lambda folder=folder: f"{folder}/bin/rt"))
             for number, holds in enumerate(scene(folder), 1):
                 passed += bool(holds)

@@ -167,7 +167,7 @@ def tell_costs(proofs, trials, as_refused, progress):
     refused, left_out = sum(len(it.refused) for it in trials), sum(len(it.left_out) for it in trials)
     rest = f"; {left_out} of crates that are not proved were left out" if left_out else ""
     progress.tell(f"{len(proofs.as_kept)} of {len(proofs.crates)} crates were taken as earlier runs kept them, and {as_refused} refusals of mutants")
-    progress.tell(f"{len(proofs.parts)} crates were proved, and {refused} mutants refused{rest}")
+    progress.tell(f"{len(proofs.parts)} crates were proved, {len(proofs.as_checked)} of them by their build, and {refused} mutants refused{rest}")
     progress.tell(f"{proofs.checked} modules were checked in this run, and {proofs.taken} taken from work that checks on this machine had kept")
     proofs.tell_times(sum(it.used for it in trials))
 
