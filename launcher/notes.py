@@ -24,11 +24,7 @@ class Notes:
     """Hands on to standard output what the program writes, and notes what is to be said of it."""
 
     def __init__(self):
-        self.refusals = []
-        self.more = 0
-        self.pending = ""
-        self.last = b""
-        self.failed = False
+        self.refusals, self.more, self.pending, self.last, self.failed = [], 0, "", b"", False
 
     def begin(self, source):
         self.hands_on = threading.Thread(target=self.hand_on, args=(source,), daemon=True)

@@ -209,17 +209,15 @@ def kept(folder):
 
 def over_contracts(folder):
     """A library is built and not checked where a body below it changed, or a comment; its build has to prove it. What is declared below is checked."""
-    text = FILES["crates/low/src/lib.rt"]
+    text, specs = FILES["crates/low/src/lib.rt"], "abbrev pub one : Nat\none = 1\n"
     yield ran(folder, beside=OVER)[::3] == (6, 5)
-    os.environ["BUILT"] = "logic=not-proved functions=1"
-    yield ran(folder, beside=OVER, lib_rt=text.replace("    2", "    8 / 4"))[1] == ["app", "low/gives_another", "over"]
-    os.environ["BUILT"] = ""
-    declared = f"{text}\npub const THREE: usize = 3;\n"
-    for by_build, changed in ((1, text.replace("    2", "    6 / 3")), (1, f"// One.\n{text}"), (0, text.replace("two()", "two(it: usize)")), (0, declared)):
+    with unittest.mock.patch.dict(os.environ, {"BUILT": "logic=not-proved functions=1"}):
+        yield ran(folder, beside=OVER, lib_rt=text.replace("    2", "    8 / 4"))[1] == ["app", "low/gives_another", "over"]
+    declared, comment, body = (f"{text}\npub const THREE: usize = 3;\n", f"// One.\n{text}", text.replace("    2", "    6 / 3"))
+    for by_build, changed in ((1, body), (1, comment), (0, text.replace("two()", "two(it: usize)")), (0, declared)):
         passed, failed, said, checks = ran(folder, beside=OVER, lib_rt=changed)
         yield (passed, failed, checks) == (6, [], 5 - by_build) and f"crates were proved, {by_build} of them by their build" in said
-    yield ran(folder, beside={**OVER, "crates/low/specs/One.antt": "abbrev pub one : Nat\none = 1\n"})[::3] == (6, 5)
-    yield ran(folder, is_all=True, beside=OVER)[::3] == (7, 6)
+    yield ran(folder, beside={**OVER, "crates/low/specs/One.antt": specs})[::3] == (6, 5) and ran(folder, is_all=True, beside=OVER)[::3] == (7, 6)
 
 
 def merged(folder):

@@ -53,9 +53,7 @@ class Count:
     """Counts tests, which may run beside each other. Those are tried whose names have one of these parts, or all."""
 
     def __init__(self, names=()):
-        self.names = names
-        self.passed = self.failed = 0
-        self.lock = threading.Lock()
+        self.names, self.passed, self.failed, self.lock = names, 0, 0, threading.Lock()
 
     def wants(self, name):
         return not self.names or any(it in name for it in self.names)

@@ -6,12 +6,13 @@ import subprocess
 import sys
 
 import building
+from crates import text_of
 from failures import TOP
-from rows import blocks_of, rows_of, script_of
+from rows import blocks_of, lines_of, rows_of, script_of, wanted_of
 
 EMPTY = "end: pending none\n"
 TEXTS, FILES, RUNS = rows_of("ntrun")
-SAMPLE, TRANSCRIPT = FILES["sample.nts"], TEXTS["TRANSCRIPT"]
+SAMPLE = FILES["sample.nts"]
 # Files of bytes that no text says well.
 FILES |= {"crlf.nts": SAMPLE.replace(b"\n", b"\r\n"), "no_last_lf.nts": SAMPLE[:-1], "-dash.nts": SAMPLE, "two words.nts": SAMPLE}
 FILES |= {"utf16.nts": b"\xff\xfe" + SAMPLE.decode().encode("utf-16-le"), "utf16_bare.nts": SAMPLE.decode().encode("utf-16-le")}
@@ -29,17 +30,8 @@ LOOKED_AT |= {"journal": b"threads 256\n; h256 is accounts\nt0 mutex h256\nt0 an
 # Scripts with the order that hangs, by hand: what is made before all calls and all lines that say nothing, and then the lines in that order, each as it
 # stands.
 ORDERS = [(script, script_of(block)) for kind, script, block in blocks_of("ntlook") if kind == "order"]
-# What standard streams of other kinds do. Each: what it is, a command, and what it gives.
-FAILED = (1, "", ["ntrun: line 7: write failed"])
-SHELLED = [
-    ("no standard output", "sh", '"$0" script sample.nts >&-', FAILED),
-    ("no standard input", "sh", '"$0" script - <&-', (1, "", ["ntrun: cannot open", "<stdin>: No such file or directory"])),
-    ("no standard error", "sh", '"$0" script no_such.nts 2>&-', (1, "", [])),
-    ("no standard output for the version", "sh", '"$0" --version >&-', (1, "", ["ntrun: write failed"])),
-    # (where nobody reads the pipe, what feeds it is ended)
-    ("FILE is a named pipe", "sh", 'mkfifo pipe; timeout 10 sh -c "cat sample.nts >pipe" & "$0" script pipe', (0, TRANSCRIPT, [])),
-    ("FILE is a process's output", "bash", '"$0" script <(cat sample.nts)', (0, TRANSCRIPT, [])),
-]
+# What standard streams of other kinds do: what it is, a command, and what it gives.
+SHELLED = [(what, lines_of(block, "$")[0], wanted_of(block, TEXTS)) for kind, what, block in blocks_of("ntrun") if kind == "shell"]
 
 # A path has folders with names of 199 bytes, and at last a file's name of up to 200. The script in each ends at a line of its own, so the transcript
 # tells which file was read.
@@ -93,10 +85,6 @@ def odd_paths(folder):
     return made + [(f"a path that is the byte {it.hex()}", it, USAGE) for it in UNREADABLE]
 
 
-def paths(folder):
-    return long_paths(folder) + odd_paths(folder)
-
-
 def write(path, held):
     with open(path, "wb") as file:
         file.write(held)
@@ -123,15 +111,6 @@ COMMANDS = {
     "why": 'while read -r line; do :; done <"$1"; echo "$1:1: nobody waits"',
     "timeline": 'echo "$GLIBC_TUNABLES"',
 }
-KIT = """#!/bin/sh
-[ "$1" = version ] && { echo "rattle-kit-0 logic ${LOGIC:-dac8208d650f15bf}"; exit; }
-echo "$1" >>"$0.runs"
-[ -e "$0.slow" ] && sleep 2
-[ -e "$0.broken" ] && { echo 'error: broken' >&2; exit 1; }
-made=out/ntrun
-[ "$1" = try ] && made=$TMPDIR/made/anything && cp "${0%/bin/rt}/a clone/script" .
-mkdir -p "${made%/*}" && cp /bin/sh "$made" && shift 2 && "$made" "$@"
-"""
 
 
 class Scratch:
@@ -139,8 +118,7 @@ class Scratch:
 
     def __init__(self, folder):
         programs = ("ntrun", "ntlook")
-        self.folder = f"{folder}/a clone"
-        self.rt = f"{folder}/bin/rt"
+        self.folder, self.rt = f"{folder}/a clone", f"{folder}/bin/rt"
         for it in ("launcher", "proving"):
             shutil.copytree(f"{TOP}/{it}", f"{self.folder}/{it}", ignore=shutil.ignore_patterns("__pycache__"))
         for it in programs:
@@ -149,7 +127,7 @@ class Scratch:
         held = {"crates.txt": "ntrun:\nntlook:\n", "HANDLES": "", "one.nts": script, "examples/hand_over.nts": script}
         held |= {f"crates/{it}/src/main.rt": "" for it in programs}
         held |= {f"{at}{name}": text for at in ("", *(f"crates/{it}/" for it in programs)) for name, text in COMMANDS.items()}
-        for path, text in [*((f"{self.folder}/{it}", text) for it, text in held.items()), (self.rt, KIT), (f"{self.rt}.runs", "")]:
+        for path, text in [*((f"{self.folder}/{it}", text) for it, text in held.items()), (self.rt, text_of(f"{TOP}/tests/rows/kit")), (f"{self.rt}.runs", "")]:
             os.makedirs(os.path.dirname(path), exist_ok=True)
             write(path, text.encode("ascii"))
         os.chmod(self.rt, 0o755)

@@ -8,9 +8,9 @@ file after `| `, with escapes as in Python.
   With a byte more each such line is too long, and what the lines before it write is all that is written.
 - `words NAME` has command lines of the program itself, each after `$ ` as a shell reads it, with the script that they name. It ends with the `status`,
   or 0.
-- `run WHAT` is a run of a launcher: its words after `$ `, what is given on standard input after `< `, the exit status if it is not 0. `text NAME` is
-  a text that others name as @NAME at a line's end, and `file NAME` a file that the runs have before them. `order NAME` is the script that `ntlook
-  explore` writes of the order in which that file hangs.
+- `run WHAT` is a run of a launcher: its words after `$ `, what is given on standard input after `< `, the exit status if it is not 0. `shell WHAT` is
+  a command of bash, in which $0 is the launcher. `text NAME` is a text that others name as @NAME at a line's end, and `file NAME` a file that the runs
+  have before them. `order NAME` is the script that `ntlook explore` writes of the order in which that file hangs.
 """
 import glob
 import os
@@ -58,10 +58,14 @@ def rows_of(name):
             files[head] = script_of(block)
         elif kind == "run":
             given = [files[it[1:]] if it.startswith("@") else f"{it}\n".encode() for it in lines_of(block, "<")]
-            status = int("".join(lines_of(block, "status")) or 0)
-            written, said = ([named(it, texts) for it in lines_of(block, mark)] for mark in (">", "!"))
-            runs.append((head, shlex.split("".join(lines_of(block, "$"))), b"".join(given), status, "".join(f"{it}\n" for it in written), said))
+            runs.append((head, shlex.split("".join(lines_of(block, "$"))), b"".join(given), *wanted_of(block, texts)))
     return texts, files, runs
+
+
+def wanted_of(block, texts):
+    """The exit status that a block wants, what is to be written and what is to be said."""
+    written, said = ([named(it, texts) for it in lines_of(block, mark)] for mark in (">", "!"))
+    return int("".join(lines_of(block, "status")) or 0), "".join(f"{it}\n" for it in written), said
 
 
 def faults():
