@@ -1,3 +1,4 @@
+pub mod Taking
 pub mod Seeing
 pub mod Telling
 pub mod Marking

@@ -1,5 +1,6 @@
 pub mod Inputs
 pub mod Watching
+pub mod Taking
 pub mod Steps
 pub mod Reports
 pub mod Ending

@@ -1,5 +1,5 @@
 //! A script that is run, and what is seen of it.
-ghost use Rattle.std.specs.Prelude.{◌≡◌, ◌+◌, ◌<◌, ◌≤◌, ◌++◌, ℕ, codes, nat_eq, length, slice_index_or, vec_len};
+ghost use Rattle.std.specs.Prelude.{◌≡◌, ◌+◌, ◌<◌, ◌≤◌, ◌^◌, ◌++◌, ℕ, List, codes, nat_eq, length, slice_index_or, vec_len};
 ghost use Rattle.std.specs.Prelude.{IfOk, IfErr, OnOk, MatchOption, None, Some};
 ghost use Rattle.std.specs.List.{ends_with};
 ghost use Rattle.std.specs.Option.{option_copied};
@@ -8,15 +8,15 @@ ghost use Rattle.nt_status.specs.declared.limits.TheConstants.{MAX_THREADS};
 ghost use Rattle.nt_grammar.specs.Scope.{handle_in};
 ghost use Rattle.nt_script.specs.Progress.{AreCounted, LineAnswers, progress, progress_of};
 ghost use Rattle.nt_lines.specs.Lines.{lines_of};
-ghost use Rattle.nt_hangs.specs.Steps.{is_last, LineHasFault, IsFaultOf, WatchesLines};
+ghost use Rattle.nt_hangs.specs.Steps.{LineHasFault, IsFaultOf, IsReadyFor, WatchesLines};
 ghost use Rattle.nt_hangs.specs.Watching.{is_waiting, names_of, newly_named, object_of, seen_of, since_of, since_then, telling, unseen, lines_up_to, Sees};
 
 use crate::refusals::note_refusal;
+use crate::taker::{TakeLine, take_lines};
 use nt_grammar::{LineFault, ScriptFault};
 use nt_lines::MAX_LINE;
 use nt_script::{RunFault, Session, carry_out};
 use nt_status::{Handle, MAX_THREADS};
-use nt_wording::first_line;
 use std::alloc::{AllocError, Global};
 
 /// The greatest number of threads, each of which has a place.
@@ -130,16 +130,6 @@ fn note_comment(told: &mut Vec<u8>, line: &[u8]) -> Result<(), AllocError>
         told.push(b'\n')?;
     }
     Ok(())
-}
-
-/// Whether the line with this number was the last to be carried out.
-fn is_last(last: Option<u64>, count: u64) -> bool
-    ensures { result ≡ is_last last count }
-{
-    match last {
-        Some(last) => last == count,
-        None => false,
-    }
 }
 
 /// Whether a line says that its call was refused for want of memory. A report of what came after would be one of another run.
@@ -260,30 +250,22 @@ impl Watch {
         &self.out
     }
 
-    /// Carries out the lines up to this one, and answers how many there were.
-    fn see_lines(&mut self, alloc: Global, input: &[u8], last: Option<u64>) -> Result<u64, RunFault>
-        requires fresh { seen_of self.old ≡ unseen }
-        ensures watches { WatchesLines (lines_up_to last (lines_of input.now)) result (seen_of self.new) }
-        ensures few { IfOk result (λ count. count ≤ length input.now) }
+    /// What taking so many lines came to: a fault after them, where none of them is a `threads` line.
+    pub fn opened(&self, taken: Result<u64, RunFault>) -> Result<u64, RunFault>
+        requires { IfOk taken (λ count. count + 1 < 2 ^ 64) }
+        ensures { (lines : List (List ℕ)) → WatchesLines lines taken (seen_of self.now)
+            → WatchesLines lines result (seen_of self.now) }
     {
-        let mut rest = input;
-        let mut count: u64 = 0;
-        while !rest.is_empty() {
-            if is_last(last, count) {
-                return Ok(count);
-            }
-            let (line, after) = first_line(rest);
-            match self.see_line(alloc, count + 1, line) {
-                Ok(()) => {}
-                Err(fault) => return Err(fault),
-            }
-            rest = after;
-            count += 1;
+        match (taken, &self.session) {
+            (Ok(count), None) => Err(RunFault::Script {
+                line: count + 1,
+                fault: ScriptFault::ThreadsExpected,
+            }),
+            (taken, _) => taken,
         }
-        Ok(count)
     }
 
-    /// The same, and that there is a `threads` line among them.
+    /// Carries out the lines up to this one, a `threads` line among them, and answers how many there were.
     pub(crate) fn watch(
         &mut self,
         alloc: Global,
@@ -293,18 +275,21 @@ impl Watch {
         requires fresh { seen_of self.old ≡ unseen }
         ensures { WatchesLines (lines_up_to last (lines_of input.now)) result (seen_of self.new) }
     {
-        match self.see_lines(alloc, input, last) {
-            Ok(count) => match &self.session {
-                Some(_) => Ok(count),
-                None => {
-                    let fault = ScriptFault::ThreadsExpected;
-                    Err(RunFault::Script {
-                        line: count + 1,
-                        fault,
-                    })
-                }
-            },
-            Err(fault) => Err(fault),
-        }
+        let taken = take_lines(self, alloc, input, last);
+        self.opened(taken)
+    }
+}
+
+impl TakeLine for Watch {
+    type Fault = RunFault;
+
+    ghost IsReady = { λ number watch. IsReadyFor number (seen_of watch) };
+
+    ghost Takes = { λ number bytes old new. Sees number bytes (seen_of old) (seen_of new) };
+
+    ghost Refuses = { λ number bytes watch fault. IsFaultOf number (seen_of watch).now bytes fault };
+
+    fn take_line(&mut self, alloc: Global, number: u64, line: &[u8]) -> Result<(), RunFault> {
+        self.see_line(alloc, number, line)
     }
 }

@@ -1,11 +1,12 @@
 -- Lines as they are read, each in its lane.
-use Rattle.std.proofs.Common.{◌≡◌, ℕ, ◌<◌, List, [], ◌∷◌, length, sym, subst, ◌+◌, ◌≤◌, Option, None, Some, refl, arith, inl, inr}
+use Rattle.std.proofs.Common.{◌≡◌, ℕ, List, [], ◌∷◌, ◌++◌, length, ap, append-nil, sym, subst, ◌+◌, Option, None, Some, refl, arith, inl, inr}
 use Rattle.std.specs.Prelude.{Result, Ok, Err, IfOk, IfErr}
 use Rattle.nt_orders.specs.Plans.{IsLaidOut, IsPlanOf, IsUnreadable, Read, Reads, ReadsAll, Stops, unread}
-use Rattle.nt_orders.specs.Reading.{IsLateFault, IsPlanFault, IsScriptOf, ReadSoFar, at_line, lanes_of}
+use Rattle.nt_orders.specs.Reading.{IsLateFault, IsPlanFault, IsScriptOf, at_line, lanes_of}
+use Rattle.nt_hangs.specs.Steps.{IsReadyFor}
+use Rattle.nt_hangs.specs.Taking.{TakesAll, TakesLines}
 use Rattle.nt_plans.specs.Gates.{race_of}
 use Rattle.nt_plans.specs.Kept.{IsLaneFault}
-use Rattle.nt_status.specs.declared.limits.TheConstants.{MAX_THREADS}
 use Rattle.nt_machine.specs.Dispatcher.{state}
 use Rattle.nt_lines.specs.Lines.{lines_of}
 use Rattle.nt_script.specs.Progress.{AreCounted, Progress}
@@ -18,7 +19,7 @@ use Rattle.nt_plans.specs.declared.items.LaneFault.TheVariants as lane
 use Rattle.nt_orders.specs.declared.fault.OrdersFault.TheVariants as orders
 
 -- a line that can't be read, with its number
-unreadable : (now : Option Progress) (number : ℕ) (bytes : List ℕ) (fault : LaneFault) → IsLaneFault now bytes fault → IsUnreadable now number bytes (at_line number fault)
+pub unreadable : (now : Option Progress) (number : ℕ) (bytes : List ℕ) (fault : LaneFault) → IsLaneFault now bytes fault → IsUnreadable now number bytes (at_line number fault)
 unreadable now number bytes (lane.Line (line.Script fault)) is = (refl, is)
 unreadable now number bytes (lane.Line line.Memory) is = refl
 unreadable now number bytes lane.NoThread is = (refl, is)
@@ -28,39 +29,49 @@ pub counted_on : (number : ℕ) (now : Option Progress) → AreCounted number no
 counted_on number None counted = tt
 counted_on number (Some now) counted = record { calls = omega (arith, counted.calls); refused = counted.refused; granted = counted.granted }
 
--- nothing is read yet
-pub ReadSoFar-start : (input : List ℕ) (now : Read) → now ≡ unread → ReadSoFar input input 0 now
-ReadSoFar-start input now fresh = rw fresh (record {
-  reads = λ new reads. reads;
-  stops = λ fault stops. stops;
-  counted = tt;
-  places = refl;
-  few = omega arith;
-})
+-- the first line may be read
+pub ready_at_first : (now : Read) → now ≡ unread → IsReadyFor 1 now.seen
+ready_at_first now fresh = rw fresh (tt, refl)
 
-module _ (input rest : List ℕ) (count : ℕ) (now : Read) (s : ReadSoFar input rest count now) (bytes after : List ℕ) (first : lines_of rest ≡ bytes ∷ lines_of after) where
-  -- one line more is read
-  pub ReadSoFar-then : (new : Read) → length after < length rest → Reads (count + 1) bytes now new → AreCounted (count + 1 + 1) new.seen.now → length new.seen.since ≡ MAX_THREADS
-      → ReadSoFar input after (count + 1) new
-  ReadSoFar-then new less reads counted places = record {
-    reads = λ last all. s.reads last (subst (λ (lines : List (List ℕ)). ReadsAll (count + 1) now lines last) (sym first) (new, reads, all));
-    stops = λ fault stops. s.stops fault (subst (λ (lines : List (List ℕ)). Stops (count + 1) now lines fault) (sym first) (inr (new, reads, stops)));
-    counted = counted;
-    places = places;
-    few = omega (arith, s.few, less);
-  }
+module _ {S : Type 0} (read : S → Read) where
+  -- who takes lines reads them
+  ReadsAll-of : (number : ℕ) (old new : S) (lines : List (List ℕ)) → TakesAll (λ n bytes a b. Reads n bytes (read a) (read b)) number old lines new → ReadsAll number (read old) lines (read new)
+  ReadsAll-of number old new [] same = ap read same
+  ReadsAll-of number old new (bytes ∷ lines) taken = (read taken.0, taken.1, ReadsAll-of (number + 1) taken.0 new lines taken.2)
 
-  -- or it can't be read
-  pub stops_here : (fault : LaneFault) → IsLaneFault now.seen.now bytes fault → Stops 1 unread (lines_of input) (at_line (count + 1) fault)
-  stops_here fault is =
-      let cause = at_line (count + 1) fault in
-      s.stops cause (subst (λ (lines : List (List ℕ)). Stops (count + 1) now lines cause) (sym first) (inl (unreadable now.seen.now (count + 1) bytes fault is)))
+  -- and stops where nothing stops him before
+  Stops-after : (number : ℕ) (old mid : S) (before after : List (List ℕ)) (fault : OrdersFault) → TakesAll (λ n bytes a b. Reads n bytes (read a) (read b)) number old before mid
+      → Stops (number + length before) (read mid) after fault → Stops number (read old) (before ++ after) fault
+  Stops-after number old mid [] after fault same stops =
+      let here : number + 0 ≡ number = omega arith in
+      subst (λ (it : Read). Stops number it after fault) (ap read same) (subst (λ (n : ℕ). Stops n (read mid) after fault) here stops)
+  Stops-after number old mid (line ∷ before) after fault taken stops =
+      let here : number + length (line ∷ before) ≡ (number + 1) + length before = omega arith in
+      inr (read taken.0, taken.1, Stops-after (number + 1) taken.0 mid before after fault taken.2 (subst (λ (n : ℕ). Stops n (read mid) after fault) here stops))
 
--- all lines are read
-pub all_read : (input rest : List ℕ) (count : ℕ) (now : Read) → ReadSoFar input rest count now → length rest ≡ 0
-    → ReadsAll 1 unread (lines_of input) now × ((fault : OrdersFault) → Stops (count + 1) now [] fault → Stops 1 unread (lines_of input) fault) × (count ≤ length input)
-all_read input [] count now s none = (s.reads now refl, s.stops, omega (arith, s.few))
-all_read input (byte ∷ rest) count now s none = absurd (omega (arith, none))
+  module _ (lines : List (List ℕ)) (old new : S) (fresh : read old ≡ unread) where
+    -- all lines were read
+    pub reads_if_ok : (result : Result ℕ OrdersFault) → TakesLines (λ n bytes a b. Reads n bytes (read a) (read b)) (λ n bytes it fault. IsUnreadable (read it).seen.now n bytes fault) lines old new result
+        → IfOk result (λ count. ReadsAll 1 unread lines (read new))
+    reads_if_ok (Ok count) taken = subst (λ (from : Read). ReadsAll 1 from lines (read new)) fresh (ReadsAll-of 1 old new lines taken.0)
+    reads_if_ok (Err fault) taken = tt
+
+    -- what stops him after them is the first to do so
+    pub stops_if_ok : (result : Result ℕ OrdersFault) → TakesLines (λ n bytes a b. Reads n bytes (read a) (read b)) (λ n bytes it fault. IsUnreadable (read it).seen.now n bytes fault) lines old new result
+        → IfOk result (λ count. (fault : OrdersFault) → Stops (count + 1) (read new) [] fault → Stops 1 unread lines fault)
+    stops_if_ok (Ok count) taken =
+        let number : count + 1 ≡ 1 + length lines = omega (arith, taken.1) in
+        λ fault stops. subst (λ (from : Read). Stops 1 from lines fault) fresh
+        (subst (λ (all : List (List ℕ)). Stops 1 (read old) all fault) (append-nil lines) (Stops-after 1 old new lines [] fault taken.0 (subst (λ (n : ℕ). Stops n (read new) [] fault) number stops)))
+    stops_if_ok (Err fault) taken = tt
+
+    -- one could not be read
+    pub stops_if_err : (result : Result ℕ OrdersFault) → TakesLines (λ n bytes a b. Reads n bytes (read a) (read b)) (λ n bytes it fault. IsUnreadable (read it).seen.now n bytes fault) lines old new result
+        → IfErr result (Stops 1 unread lines)
+    stops_if_err (Ok count) taken = tt
+    stops_if_err (Err fault) taken =
+        subst (λ (from : Read). Stops 1 from lines fault) fresh
+        (subst (λ (all : List (List ℕ)). Stops 1 (read old) all fault) (sym taken.split) (Stops-after 1 old taken.mid taken.before (taken.line ∷ taken.after) fault taken.takes (inl taken.refuses)))
 
 -- ---- the script
 

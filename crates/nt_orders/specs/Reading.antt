@@ -1,8 +1,6 @@
 -- How a script is read, line by line. No public clause cites this.
-use Rattle.std.specs.Prelude.{◌≡◌, ◌⊎◌, ℕ, ◌+◌, ◌≤◌, ◌++◌, List, [], ◌∷◌, length, map, None, Some}
-use Rattle.nt_status.specs.declared.limits.TheConstants.{MAX_THREADS}
-use Rattle.nt_lines.specs.Lines.{lines_of}
-use Rattle.nt_script.specs.Progress.{AreCounted, Progress}
+use Rattle.std.specs.Prelude.{◌≡◌, ◌⊎◌, ℕ, ◌++◌, List, [], ◌∷◌, map, None, Some}
+use Rattle.nt_script.specs.Progress.{Progress}
 use Rattle.nt_grammar.specs.declared.fault.LineFault.{LineFault}
 use Rattle.nt_grammar.specs.declared.fault.LineFault.TheVariants as line
 use Rattle.nt_script.specs.declared.fault.RunFault.{RunFault}
@@ -20,7 +18,7 @@ use Rattle.nt_plans.specs.declared.items.LaneFault.TheVariants as lane
 use Rattle.nt_orders.specs.declared.reading.Reading.{Reading}
 use Rattle.nt_orders.specs.declared.order.Gone as kept_gone
 use Rattle.nt_plans.specs.Gates as gates
-use Rattle.nt_orders.specs.Plans.{Gone, IsLaidOut, Read, ReadsAll, Stops, unread}
+use Rattle.nt_orders.specs.Plans.{Gone, IsLaidOut, Read}
 use Rattle.nt_plans.specs.Gates.{Item, Lanes, race_of}
 
 -- the lanes of a script that was read
@@ -75,13 +73,3 @@ IsPlanFault race (orders.Run fault) = ⊥
 -- why there is no script once all lines before this one were read: there is no `threads` line, or they are not planned
 abbrev pub IsLateFault : ℕ → Read → OrdersFault → Type 0
 IsLateFault number read fault = ((read.seen.now ≡ None) × (fault ≡ orders.Run (run.Script number ThreadsExpected))) ⊎ IsPlanFault (λ line. race_of read.items ≡ Some line) fault
-
--- ---- the lines so far
-
--- where reading the rest ends, or stops, reading all lines does
-pub record ReadSoFar (input rest : List ℕ) (count : ℕ) (now : Read) : Type 0 where
-  pub reads : (new : Read) → ReadsAll (count + 1) now (lines_of rest) new → ReadsAll 1 unread (lines_of input) new
-  pub stops : (fault : OrdersFault) → Stops (count + 1) now (lines_of rest) fault → Stops 1 unread (lines_of input) fault
-  pub counted : AreCounted (count + 1) now.seen.now
-  pub places : length now.seen.since ≡ MAX_THREADS
-  pub few : count + length rest ≤ length input

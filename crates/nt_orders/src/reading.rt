@@ -4,12 +4,12 @@ ghost use Rattle.nt_status.specs.declared.limits.TheConstants.{MAX_THREADS};
 ghost use Rattle.nt_machine.specs.Dispatcher.{state};
 ghost use Rattle.nt_lines.specs.Lines.{lines_of};
 ghost use Rattle.nt_script.specs.Progress.{AreCounted};
-ghost use Rattle.nt_hangs.specs.Steps.{LineHasFault};
+ghost use Rattle.nt_hangs.specs.Steps.{IsReadyFor, LineHasFault};
 ghost use Rattle.nt_hangs.specs.Watching.{Sees, names_of, seen_of};
 ghost use Rattle.nt_grammar.specs.Scope.{handle_in};
 ghost use Rattle.nt_lanes.specs.Lanes.{asked};
 ghost use Rattle.nt_orders.specs.Ending.{IsFirstFault};
-ghost use Rattle.nt_orders.specs.Plans.{IsPlanOf, Reads, ReadsAll, Stops, given, is_open, made_on, unread, with_closed, with_ended, with_exited, with_made};
+ghost use Rattle.nt_orders.specs.Plans.{IsPlanOf, IsUnreadable, Reads, ReadsAll, Stops, given, is_open, made_on, unread, with_closed, with_ended, with_exited, with_made};
 ghost use Rattle.nt_orders.specs.Reading.{IsLast, IsLateFault, IsScriptOf, at_line, lanes_of, read_of};
 ghost use Rattle.nt_plans.specs.Gates.{closed_by, whole_line};
 ghost use Rattle.nt_plans.specs.Kept.{Finds, IsLaneFault, ended_of, item_of};
@@ -19,13 +19,12 @@ use crate::lanes::{Script, lay_out};
 use nt_calls::Call;
 use nt_explore::Ask;
 use nt_grammar::{LineFault, ScriptFault};
-use nt_hangs::Watch;
+use nt_hangs::{TakeLine, Watch, take_lines};
 use nt_plans::{
     Creation, Does, Ended, Found, Item, LaneFault, closed_by, find_in, line_of, put_whole,
 };
 use nt_script::RunFault;
 use nt_status::Handle;
-use nt_wording::first_line;
 use std::alloc::{AllocError, Global};
 
 /// A script that is read so far.
@@ -77,8 +76,7 @@ fn note_closed(
     watch: &Watch,
     handle: Option<Handle>,
 ) -> Result<(), AllocError>
-    ensures { OnOk result (closed.new.items
-        ≡ with_closed (seen_of watch.now).now closed.old.items handle) }
+    ensures { OnOk result (closed.new.items ≡ with_closed (seen_of watch.now).now closed.old.items handle) }
 {
     if let Some(handle) = handle {
         if is_open(watch, handle) {
@@ -316,18 +314,24 @@ impl Reading {
         ensures few { IfOk result (λ count. count ≤ length input.now) }
         ensures fault { IfErr result (Stops 1 unread (lines_of input.now)) }
     {
-        let mut rest = input;
-        let mut count: u64 = 0;
-        while !rest.is_empty() {
-            let (line, after) = first_line(rest);
-            match self.read(alloc, count + 1, line) {
-                Ok(()) => {}
-                Err(fault) => return Err(orders_fault_at(count + 1, fault)),
-            }
-            rest = after;
-            count += 1;
+        take_lines(self, alloc, input, None)
+    }
+}
+
+impl TakeLine for Reading {
+    type Fault = OrdersFault;
+
+    ghost IsReady = { λ number reading. IsReadyFor number (seen_of reading.watch) };
+
+    ghost Takes = { λ number bytes old new. Reads number bytes (read_of old) (read_of new) };
+
+    ghost Refuses = { λ number bytes reading fault. IsUnreadable (seen_of reading.watch).now number bytes fault };
+
+    fn take_line(&mut self, alloc: Global, number: u64, line: &[u8]) -> Result<(), OrdersFault> {
+        match self.read(alloc, number, line) {
+            Ok(()) => Ok(()),
+            Err(fault) => Err(orders_fault_at(number, fault)),
         }
-        Ok(count)
     }
 }
 
@@ -360,12 +364,10 @@ pub(crate) fn read_script(alloc: Global, input: &[u8]) -> Result<Script, OrdersF
     ensures fault { IfErr result (IsFirstFault input.now) }
 {
     match Reading::new(alloc) {
-        Ok(mut reading) => {
-            match reading.read_all(alloc, input) {
-                Ok(count) => finish(alloc, reading, count),
-                Err(fault) => Err(fault),
-            }
-        }
+        Ok(mut reading) => match reading.read_all(alloc, input) {
+            Ok(count) => finish(alloc, reading, count),
+            Err(fault) => Err(fault),
+        },
         Err(_) => Err(OrdersFault::Memory),
     }
 }

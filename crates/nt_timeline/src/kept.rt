@@ -22,7 +22,9 @@ pub struct Kept {
     pub ended: Vec<EndOfWait>,
     /// By thread, the place of the step that began its pending wait.
     began: Vec<usize>,
-    /// The number of the handle with the name that is asked for, once it has it.
+    /// The name that is asked for, if one is.
+    object: Option<Vec<u8>>,
+    /// The number of the handle with that name, once one has it.
     handle: Option<u64>,
 }
 
@@ -89,8 +91,22 @@ impl Kept {
             steps: Vec::new(alloc),
             ended: Vec::new(alloc),
             began: Vec::from_elem(alloc, 0, MOST_THREADS)?,
+            object: None,
             handle: None,
         })
+    }
+
+    /// Notes which object is asked for, if one is.
+    pub(crate) fn ask_for(
+        &mut self,
+        alloc: Global,
+        object: Option<&str>,
+    ) -> Result<(), AllocError> {
+        self.object = match object {
+            Some(object) => Some(Vec::from_slice(alloc, object.as_bytes())?),
+            None => None,
+        };
+        Ok(())
     }
 
     /// Notes that the thread's wait began at this step.
@@ -128,14 +144,14 @@ impl Kept {
     }
 
     /// Whether these words name the object that is asked for, if one is.
-    fn is_asked_for(&mut self, session: &Session, text: &[u8], object: Option<&str>) -> bool {
-        let Some(object) = object else {
+    fn is_asked_for(&mut self, session: &Session, text: &[u8]) -> bool {
+        let Some(object) = &self.object else {
             return false;
         };
         if self.handle.is_none() {
-            self.handle = handle_of(session, object.as_bytes());
+            self.handle = handle_of(session, object);
         }
-        names(text, object.as_bytes(), self.handle)
+        names(text, object, self.handle)
     }
 
     /// Keeps a step of this thread, or a tick.
@@ -216,13 +232,12 @@ impl Kept {
         line: &[u8],
         words: Words<'_>,
         said: &[u8],
-        object: Option<&str>,
     ) -> Result<(), AllocError> {
         let (first, text) = parts_of(line);
         if first.is_empty() || first == b"threads".as_slice() {
             return Ok(());
         }
-        let is_asked_for = self.is_asked_for(words.session, text, object);
+        let is_asked_for = self.is_asked_for(words.session, text);
         let mut call = Vec::new(alloc);
         put_words(&mut call, text)?;
         let label = self.draw(alloc, words, &call)?;

@@ -1,8 +1,10 @@
-use Rattle.std.proofs.Common.{ap}
-use Rattle.nt_script.specs.Progress.{progress_of}
-use Rattle.nt_hangs.specs.Watching.{seen_of}
-use Rattle.nt_hangs.proofs.Seeing.{unopened}
+use Rattle.nt_lines.specs.Lines.{lines_of}
+use Rattle.nt_hangs.specs.Watching.{lines_up_to, seen_of}
+use Rattle.nt_hangs.proofs.Seeing.{watched}
 use Rattle.nt_hangs.proofs.watch.Watch.watch.Goals as goal
 
-pub returns-in-None : goal.returns-in-None
-returns-in-None c = unopened _ c.in-Ok.count (seen_of c.see_lines.new.self) (seen_of c.see_lines.new.self) c.in-Ok.ensures.watches (ap progress_of c.in-None.is)
+pub returns : goal.returns
+returns c =
+    let lines = lines_up_to c.args.last (lines_of c.args.input.now) in
+    let taken = c.take_lines-taken in
+    c.opened.ensures lines (watched seen_of lines c.args.self.now taken.new.taker taken.result c.requires.fresh taken.ensures.takes)
