@@ -143,7 +143,8 @@ NTW_INTERNAL void give_seat(struct seat *seat)
     add_spare(seat, seat->handle);
 }
 
-/* The caller has left, for the dispatcher, under the lock. From now on it has no seat, though destructors that run later may still call. */
+/* The caller has left, for the dispatcher, under the lock. From now on it has no seat, though destructors that run later may still call. (That it has
+ * left is known first: a handler of signals that finds it without a seat would take one, and wait for the lock.) */
 static void end_seat(struct seat *seat)
 {
     end_life(seat);
@@ -154,8 +155,9 @@ static void end_seat(struct seat *seat)
         waiting.left = seat->runner;
         seat->runner = NULL;
     }
-    own.seat = NULL;
     own.has_left = true;
+    atomic_signal_fence(memory_order_seq_cst);
+    own.seat = NULL;
 }
 
 /* The thread ends, for the dispatcher: its mutexes are abandoned, and who waits for it is granted. One that was canceled in the middle of a wait can't

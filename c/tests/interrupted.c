@@ -1,6 +1,6 @@
 /* A handler of signals makes a call, in each window of one instruction of a call of its own thread (step.h): either it does, or it is refused with
  * ERROR_POSSIBLE_DEADLOCK, since its thread has the lock or a latch, or takes it. It never waits for what its own thread has: so it is too where that
- * tells why threads wait, or ends the process. */
+ * tells why threads wait, or ends the process; and where it ends itself, the call is refused from then on. */
 #define LOOKS_AT_LOCK 1
 #define LOOKS_AT_WORD 1
 #define WAITS_PER_TRY 4096
@@ -46,7 +46,7 @@ static void on_hang(int signal)
 static void note_whether(BOOL is_done)
 {
     has_set = is_done;
-    must(has_set || GetLastError() == ERROR_POSSIBLE_DEADLOCK);
+    must(has_set || GetLastError() == ERROR_POSSIBLE_DEADLOCK || (own.has_left && GetLastError() == NT_ERROR_THREAD_ENDED));
     sets += has_set;
     refusals += !has_set;
 }
@@ -166,6 +166,8 @@ static void look_at_made(void)
     must(WaitForSingleObject(made, INFINITE) == WAIT_OBJECT_0 && CloseHandle(made));
     look_at_others();
 }
+
+#include "interrupted_lives.h"
 
 /* ---- A handler that posts a packet, submits work, or sets a timer. */
 
@@ -333,6 +335,7 @@ int main(void)
     interrupt("ntwin_why, by a thread that has not called", NULL, tell_why, nothing);
     passes_over = NULL;
     interrupt("the end of the process", call_once, end_process, nothing);
+    interrupt_ends();
     if (process.has_barriers) {
         interrupt("SetEvent, by the favoured thread", be_favoured, set_mine, nothing);
         passes_over = revokes;
