@@ -10,10 +10,25 @@ static DWORD id_of(const struct seat *seat)
     return (seat->number + 1) * 4;
 }
 
+/* The caller has this seat from now on. (A handler of signals may have called before, and taken another: that is left.) */
+static void come_to_seat(struct seat *seat)
+{
+    own.joins = true;
+    atomic_signal_fence(memory_order_seq_cst);
+    if (own.seat != NULL) {
+        leave(own.seat);
+        own.has_left = false;
+    }
+    own.seat = seat;
+    atomic_signal_fence(memory_order_seq_cst);
+    own.joins = false;
+}
+
 static void *run_thread(void *at)
 {
     jmp_buf end;
-    struct seat *seat = own.seat = at;
+    struct seat *seat = at;
+    come_to_seat(seat);
     if (by_schedule())
         begin_scheduled(seat);
     const bool leaves_by_key = pthread_setspecific(process.leaving, rounds) == 0;

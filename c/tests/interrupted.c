@@ -335,6 +335,7 @@ int main(void)
     interrupt("ntwin_why, by a thread that has not called", NULL, tell_why, nothing);
     passes_over = NULL;
     interrupt("the end of the process", call_once, end_process, nothing);
+    interrupt_begins();
     interrupt_ends();
     if (process.has_barriers) {
         interrupt("SetEvent, by the favoured thread", be_favoured, set_mine, nothing);
