@@ -18,10 +18,10 @@
  *   - No thread is suspended once it has begun, or terminated; a priority has no effect.
  *   - No thread is made to keep the time. Each sleeps to its own deadline; for timers one of those that wait for one keeps it for all of
  *     them, and a handler of signals that runs long in that thread delays the timers.
- *   - A handler of signals makes no calls but exit and those that set an event, release a semaphore or mutex or queue an APC. One that has interrupted a
- *     call of its own thread under the library's lock is refused with ERROR_POSSIBLE_DEADLOCK, and does not hang; and in a thread that waits the dispatcher
- *     refuses all but SetEvent. pthread_cancel acts once a wait has ended, and does not end it; a thread that is
- *     canceled asynchronously while it waits keeps its mutexes.
+ *   - A handler of signals makes no calls but exit and those that set an event, release a semaphore or mutex or queue an APC. It does not leave by
+ *     siglongjmp. One that has interrupted a call of its own thread under the library's lock is refused with ERROR_POSSIBLE_DEADLOCK, and does not
+ *     hang; and in a thread that waits the dispatcher refuses all but SetEvent.
+ *   - pthread_cancel acts once a wait has ended, and does not end it; a thread that is canceled asynchronously while it waits keeps its mutexes.
  *   - ExitThread unwinds a thread that CreateThread did not make, as pthread_exit does.
  * docs/WIN32.md has each call. Each is made as Microsoft's page says, otherwise. */
 #ifndef NTWIN_H
