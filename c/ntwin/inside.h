@@ -259,7 +259,7 @@ struct waiting {
     uint32_t begun;          /* how many waits have begun to pend */
     uint32_t seated;         /* how many seats were ever taken */
     uint32_t alive;          /* how many of their threads have not left */
-    uint32_t ended;          /* how many have left, and some handle named them when that was looked at last */
+    uint32_t ended;          /* how many have left, and a handle or a wait named them when that was looked at last */
     struct seat *spare;      /* seats that are free again */
     uint32_t tried;          /* which seat was looked at last for a place to give again */
     struct runner *left;     /* threads of CreateThread that have left and are not joined */

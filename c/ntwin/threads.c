@@ -22,7 +22,7 @@ static void add_spare(struct seat *seat, uint32_t handle)
 }
 
 /* A thread begins, under the lock, in the first place of one that has left and that nothing names any longer. What the last call reported was noted.
- * Answers whether there is such a place: if not, each was looked at. */
+ * Answers whether one has begun: if not, each place was looked at, but where none has ended. */
 static bool renew_first_seat(void)
 {
     struct nt_begun begun;
