@@ -130,6 +130,7 @@ class Script:
         for number, line in lines:
             first, keyword, *words = line.split()
             if first in exited:
+                self.names.call(keyword, words)  # each name that is told has to be one
                 continue
             if first == "tick" or keyword not in CREATES:
                 found.append((number, line, None))
