@@ -88,7 +88,7 @@ class Late:
 class Script:
     """The machine after all creations, wherever they stand, and the lines of each lane: those of the threads, and last the ticks. Each has its number,
     what is shown of it, and what is carried out. A late creation sets an event, its gate, and what has to come after it waits for that. Its handle is
-    there from the start, but is let go where the creation is refused: another one of it was to be made, and that was closed, or is about to be."""
+    there from the start, but is let go where the creation is refused: once that is closed of which another one was to be made."""
 
     def __init__(self, text):
         (_, opening), *lines = lines_of(text)
@@ -156,35 +156,30 @@ class Script:
             if (lane, it.gate) not in self.passed:
                 self.lanes[lane].append((number, f"t{lane} waits for line {it.number}", f"t{lane} any inf plain {it.gate}"))
                 self.passed.add((lane, it.gate))
-        for it in above if rest[:1] == ["close"] else []:
-            if it.source in named and (lane, it.gate) not in self.passed:
-                self.lanes[lane].append((number, f"t{lane} closes the source of line {it.number}", it))
         self.lanes[lane].append((number, line, late or line))
         self.passed |= {(lane, late.gate)} if late else set()
 
-    def carry_out(self, machine, shown, done):
+    def carry_out(self, machine, done):
         """Has a line go. Answers what is told, and the waits that ended."""
         if not isinstance(done, Late):
-            return self.names.carry_out(machine, done)
-        if " closes the source of " in shown:
-            self.refuse(machine, done)
-            return "ok", []
+            answer, ended = self.names.carry_out(machine, done)
+            for it in self.late:
+                self.refuse_without_source(machine, it)
+            return answer, ended
         is_lost = done.source is not None and machine.handles[done.source] is None
         answer, ended = machine.call(done.who, "set", done.gate)
         return "error 6" if is_lost or machine.handles[done.handle] is None else answer, ended
 
-    def refuse(self, machine, late):
-        """Lets go what the late creation was to make, unless it was made, and what others were to make of that."""
-        if not machine.objects[machine.handles[late.gate][0]].set:
+    def refuse_without_source(self, machine, late):
+        """Lets go what the late creation was to make, unless it was made, once that is closed of which it was to make another one."""
+        is_made = machine.objects[machine.handles[late.gate][0]].set
+        if not is_made and late.source is not None and machine.handles[late.source] is None:
             machine.handles[late.handle] = None
-            for it in (it for it in self.late if it.source == late.handle):
-                self.refuse(machine, it)
+            machine.end_forgotten()
 
-    def asked(self, shown, done):
+    def asked(self, done):
         """What a line asks, without its thread."""
-        if isinstance(done, Late):
-            return " closes " in shown, done.number
-        return self.names.call(*done.split()[1:2], done.split()[2:])
+        return ("late", done.number) if isinstance(done, Late) else self.names.call(*done.split()[1:2], done.split()[2:])
 
     def titled(self, word):
         """The word, and what the last comment that tells it a name calls it."""
@@ -260,7 +255,7 @@ def handles_in(keyword, *words):
 
 def twins_of(script):
     """For each thread the lower ones that have the same calls to make, where no call names the handle of one of the two."""
-    calls = [[script.asked(*it[1:]) for it in lane] for lane in script.lanes[:-1]]
+    calls = [[script.asked(done) for *_, done in lane] for lane in script.lanes[:-1]]
     named = {it for lane in calls for call in lane for it in handles_in(*call)}
     return [[low for low in range(who) if calls[low] == calls[who] and not {low, who} & named] for who in range(script.threads)]
 
@@ -323,7 +318,7 @@ class Found:
         if here.at[lane] == len(self.script.lanes[lane]) or lane in here.machine.waits or self.has_lower(here, lane):
             return
         machine = here.machine.copy()
-        self.script.carry_out(machine, *self.script.lanes[lane][here.at[lane]][1:])
+        self.script.carry_out(machine, self.script.lanes[lane][here.at[lane]][2])
         next_one = Point(machine, (*here.at[:lane], here.at[lane] + 1, *here.at[lane + 1:]), here, lane)
         found = met.setdefault((next_one.at, machine.key()), next_one)
         if found is next_one:
@@ -370,7 +365,7 @@ class Found:
         machine, at, rows = self.script.start.copy(), [0] * len(self.script.lanes), []
         for lane in point.order():
             number, line, done = self.script.lanes[lane][at[lane]]
-            answer, grants = self.script.carry_out(machine, line, done)
+            answer, grants = self.script.carry_out(machine, done)
             at[lane] += 1
             ends = "".join(f"; t{who}'s wait ends: {status_name(status)}" for who, status in grants)
             rows.append((str(number), line, answer_name(answer) + ends))

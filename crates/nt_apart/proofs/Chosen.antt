@@ -196,7 +196,7 @@ ask_twice r back (Calls (Call.Wait (WaitCall.Swap h object mode))) =
     ∙ ap (λ (k : ℕ). Calls (Call.Wait (WaitCall.Swap h k mode))) (back object)
 ask_twice r back (Calls Call.Exit) = refl
 ask_twice r back (Passes moment) = refl
-ask_twice r back (Tries acts) = ap (λ (l : List Act). Tries l) (map_twice (renamed_act r) (act_twice r back) acts)
+ask_twice r back (Tries acts) = ap (λ (l : List (Option Act)). Tries l) (map_twice (option_map (renamed_act r)) (option_twice (renamed_act r) (act_twice r back)) acts)
 
 wait_twice : (r : ℕ → ℕ) → ((x : ℕ) → r (r x) ≡ x) → (w : Wait) → renamed_wait r (renamed_wait r w) ≡ w
 wait_twice r back w = ap (λ (hs : List ℕ). record w { objects = hs }) (map_twice r back w.objects)

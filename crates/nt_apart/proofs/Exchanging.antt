@@ -204,13 +204,15 @@ call_fixed a b (Call.Wait (WaitCall.Swap h object mode)) none =
     ∙ ap (λ (k : ℕ). Call.Wait (WaitCall.Swap h k mode)) (named_first a b object [] (λ k has. none k (contains_later h (object ∷ []) k has)))
 call_fixed a b Call.Exit none = refl
 
-acts_fixed : (a b : ℕ) (acts : List Act) → ((h : ℕ) → Contains (handles_tried acts) h → (h ≢ a) × (h ≢ b)) → map (renamed_act (exchanged a b)) acts ≡ acts
+acts_fixed : (a b : ℕ) (acts : List (Option Act)) → ((h : ℕ) → Contains (handles_tried acts) h → (h ≢ a) × (h ≢ b))
+    → map (option_map (renamed_act (exchanged a b))) acts ≡ acts
 acts_fixed a b [] none = refl
-acts_fixed a b (act ∷ acts) none =
+acts_fixed a b (None ∷ acts) none = ap (λ (xs : List (Option Act)). None ∷ xs) (acts_fixed a b acts none)
+acts_fixed a b (Some act ∷ acts) none =
     let whole : renamed_call (exchanged a b) (Call.Act act) ≡ Call.Act act = call_fixed a b (Call.Act act) (λ h has. none h (Contains-append_left (handles_of (Call.Act act)) (handles_tried acts) h has)) in
     let first : renamed_act (exchanged a b) act ≡ act = (let same : Call.Act (renamed_act (exchanged a b) act) ≡ Call.Act act = whole in cc) in
-    ap (λ (x : Act). x ∷ map (renamed_act (exchanged a b)) acts) first
-    ∙ ap (λ (xs : List Act). act ∷ xs) (acts_fixed a b acts (λ h has. none h (Contains-append_right (handles_of (Call.Act act)) (handles_tried acts) h has)))
+    ap (λ (x : Act). Some x ∷ map (option_map (renamed_act (exchanged a b))) acts) first
+    ∙ ap (λ (xs : List (Option Act)). Some act ∷ xs) (acts_fixed a b acts (λ h has. none h (Contains-append_right (handles_of (Call.Act act)) (handles_tried acts) h has)))
 
 lines_fixed : (plan : Plan) (p : Point) (a b : ℕ) → StandAlike plan p a b → (lane : ℕ) → map (renamed_ask (exchanged a b)) (left plan p lane) ≡ left plan p lane
 lines_fixed plan p a b alike lane = map_fixed (renamed_ask (exchanged a b)) (left plan p lane) at
@@ -218,7 +220,7 @@ lines_fixed plan p a b alike lane = map_fixed (renamed_ask (exchanged a b)) (lef
     at : (ask : Ask) → Contains (left plan p lane) ask → renamed_ask (exchanged a b) ask ≡ ask
     at (Calls call) has = ap (λ (c : Call). Calls c) (call_fixed a b call (λ h named. alike.unnamed lane (Calls call) h has named))
     at (Passes moment) has = refl
-    at (Tries acts) has = ap (λ (l : List Act). Tries l) (acts_fixed a b acts (λ h named. alike.unnamed lane (Tries acts) h has named))
+    at (Tries acts) has = ap (λ (l : List (Option Act)). Tries l) (acts_fixed a b acts (λ h named. alike.unnamed lane (Tries acts) h has named))
 
 -- ---- all together
 

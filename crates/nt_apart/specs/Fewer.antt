@@ -2,6 +2,7 @@
 use Rattle.std.specs.Prelude.{Contains, ◌≡◌, ◌≢◌, ◌==◌, if◌then◌else◌, ◌⊎◌, ◌↔◌, ◌≤◌, ℕ, Bool, true, List, [], ◌∷◌, length, ◌<◌, false, map, drop, slice_index_or, option_map, ◌++◌}
 use Rattle.nt_look.specs.Orders.{Plan, Point, Goes, Order, Hangs, IsLost, Ask, Calls, Passes, Tries, place, asks}
 use Rattle.std.specs.FinMap.{get}
+use Rattle.std.specs.declared.option.Option.{Option}
 use Rattle.std.specs.declared.option.Option.TheVariants.{None, Some}
 use Rattle.std.specs.declared.result.Result.{Result}
 use Rattle.nt_status.specs.declared.limits.TheConstants.{MAX_HANDLES}
@@ -200,7 +201,7 @@ left plan p lane = drop (place p lane) (asks plan lane)
 abbrev pub renamed_ask : (ℕ → ℕ) → Ask → Ask
 renamed_ask r (Calls call) = Calls (renamed_call r call)
 renamed_ask r (Passes moment) = Passes moment
-renamed_ask r (Tries acts) = Tries (map (renamed_act r) acts)
+renamed_ask r (Tries acts) = Tries (map (option_map (renamed_act r)) acts)
 
 -- the point q is p with its threads renamed: each lane has left there what the renamed lane has left here, renamed
 pub record IsPointRenamed (r : ℕ → ℕ) (plan : Plan) (p q : Point) : Type 0 where
@@ -246,10 +247,15 @@ handles_of (Call.Wait (WaitCall.Objects all mode hs)) = hs
 handles_of (Call.Wait (WaitCall.Swap h object mode)) = h ∷ object ∷ []
 handles_of _ = []
 
--- the handles that acts name
-abbrev pub handles_tried : List Act → List ℕ
+-- the handles that one of the acts names that are tried; a gap names none
+abbrev pub handles_in : Option Act → List ℕ
+handles_in None = []
+handles_in (Some act) = handles_of (Call.Act act)
+
+-- the handles that all of them name
+abbrev pub handles_tried : List (Option Act) → List ℕ
 handles_tried [] = []
-handles_tried (act ∷ acts) = handles_of (Call.Act act) ++ handles_tried acts
+handles_tried (act ∷ acts) = handles_in act ++ handles_tried acts
 
 -- the handles that are named where a lane is asked this
 abbrev pub handles_asked : Ask → List ℕ

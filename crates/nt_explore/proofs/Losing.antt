@@ -1,6 +1,6 @@
 -- One order leads to one point; and since when a wait was lost.
 use Rattle.std.proofs.Common.{◌≡◌, ◌≢◌, ℕ, Bool, false, List, [], ◌∷◌, refl, sym, ap, ◌∙◌, subst, Some, ◌<◌, ◌≤◌, ◌+◌, ◌*◌, true, ◌++◌, ◌-◌, length, drop, take, take_all, get_or, arith, Option, None, eqb, ltb, inl, inr, ◌⊎◌, Contains}
-use Rattle.std.specs.Prelude.{Result, Ok, Err, OnOk, is_ok, is_err, nat_lt, slice_set, if◌then◌else◌, ◌↔◌}
+use Rattle.std.specs.Prelude.{Result, Ok, Err, OnOk, is_ok, nat_lt, slice_set, if◌then◌else◌, ◌↔◌}
 use Rattle.nt_status.specs.declared.refusal.Refusal.{Refusal}
 use Rattle.nt_status.specs.declared.refusal.Refusal.TheVariants.{AccessDenied, InvalidHandle, Memory, ThreadGone, InvalidParameter, NotOwner, TooManyPosts, ThreadWaiting, ThreadEnded, UnknownThread, RecursionLimit, MomentBack, JournalFull, HandleLimit}
 use Rattle.nt_calls.specs.declared.call.Act.{Act}
@@ -45,30 +45,21 @@ calm (Err MomentBack) other = refl
 calm (Err JournalFull) other = refl
 calm (Err HandleLimit) other = refl
 
--- an act more was tried, which was carried out; and then the rest
-pub tried_more : {E : Type 0} (old mid new : State) (t : ℕ) (acts : List Act) (act : Act) (answer : Result Reply Refusal) (grants : List Grant) (r : Result Unit E)
-    → 1 ≤ length acts → act ≡ get_or acts 0 act → (answer ≢ Err Memory) → false ≡ is_err answer → Called old t (Call.Act act) answer grants mid
-    → OnOk r (AreTried mid t (take (length acts - 1) (drop 1 acts)) new) → OnOk r (AreTried old t acts new)
-tried_more old mid new t [] act answer grants r some is enough held called rest = absurd (omega (arith, some))
-tried_more old mid new t (x ∷ acts) act (Err cause) grants r some is enough held called rest = absurd (false≢true held)
-tried_more old mid new t (x ∷ acts) act (Ok reply) grants (Err e) some is enough held called rest = tt
-tried_more old mid new t (x ∷ acts) act (Ok reply) grants (Ok unit) some is enough held called rest = (
-  Ok reply,
-  grants,
-  mid,
-  enough,
-  subst (λ (a : Act). Called old t (Call.Act a) (Ok reply) grants mid) is called,
-  inl (refl, subst (λ (l : List Act). AreTried mid t l new) (take_all (length (x ∷ acts) - 1) acts (omega arith)) rest),
-)
+-- the first of acts, and those after it, are all of them
+pub all_acts : (acts : List (Option Act)) (first : Option Act) → 1 ≤ length acts → first ≡ get_or acts 0 first → first ∷ take (length acts - 1) (drop 1 acts) ≡ acts
+all_acts [] first some is = absurd (omega (arith, some))
+all_acts (x ∷ acts) first some is =
+    ap (λ (a : Option Act). a ∷ take (length (x ∷ acts) - 1) acts) is ∙ ap (λ (l : List (Option Act)). x ∷ l) (take_all (length (x ∷ acts) - 1) acts (omega arith))
 
--- or it was refused
-pub tried_last : (old new : State) (t : ℕ) (acts : List Act) (act : Act) (answer : Result Reply Refusal) (grants : List Grant)
-    → 1 ≤ length acts → act ≡ get_or acts 0 act → (answer ≢ Err Memory) → true ≡ is_err answer → Called old t (Call.Act act) answer grants new
-    → AreTried old t acts new
-tried_last old new t [] act answer grants some is enough failed called = absurd (omega (arith, some))
-tried_last old new t (x ∷ acts) act (Ok reply) grants some is enough failed called = absurd (false≢true (sym failed))
-tried_last old new t (x ∷ acts) act (Err cause) grants some is enough failed called =
-    (Err cause, grants, new, enough, subst (λ (a : Act). Called old t (Call.Act a) (Err cause) grants new) is called, inr (refl, refl))
+-- an act more was tried, and then the rest
+pub tried_more : {E : Type 0} (old mid new : State) (t : ℕ) (acts rest : List (Option Act)) (it : Option Act) (act : Act) (goes ok : Bool) (answer : Result Reply Refusal) (grants : List Grant) (r : Result Unit E)
+    → it ∷ rest ≡ acts → it ≡ Some act → goes ≡ true → (answer ≢ Err Memory) → ok ≡ is_ok answer → Called old t (Call.Act act) answer grants mid
+    → OnOk r (AreTried mid t rest ok new) → OnOk r (AreTried old t acts goes new)
+tried_more old mid new t acts rest it act goes ok answer grants (Err e) all some go enough is called more = tt
+tried_more old mid new t acts rest it act false ok answer grants (Ok unit) all some go enough is called more = absurd (false≢true go)
+tried_more old mid new t acts rest it act true ok answer grants (Ok unit) all some go enough is called more =
+    subst (λ (l : List (Option Act)). AreTried old t l true new) (ap (λ (x : Option Act). x ∷ rest) (sym some) ∙ all)
+    (answer, grants, mid, enough, called, subst (λ (b : Bool). AreTried mid t rest b new) is more)
 
 -- a call leads to one answer and one state, but where it finds no memory
 call_same : (old a b : State) (lane : ℕ) (call : Call) (r q : Result Reply Refusal) (gs hs : List Grant) → (r ≢ Err Memory) → (q ≢ Err Memory)
@@ -79,23 +70,19 @@ call_same old a b lane call r q gs hs one other x y =
     let turn : runs.Calls lane call r gs ≡ runs.Calls lane call q hs = same.0 in
     ((cc), same.1)
 
-tried_same : (old : State) (lane : ℕ) (acts : List Act) (a b : State) → AreTried old lane acts a → AreTried old lane acts b → a ≡ b
-tried_same old lane [] a b x y = x ∙ sym y
-tried_same old lane (act ∷ acts) a b (r, gs, c, one, x, on) (q, hs, d, other, y, on') = go (λ more more'. tried_same d lane acts a b more more') on on'
-  where
-    same : (r ≡ q) × (c ≡ d)
-    same = call_same old c d lane (Call.Act act) r q gs hs one other x y
-
-    go : (AreTried d lane acts a → AreTried d lane acts b → a ≡ b) → ((is_ok r ≡ true) × AreTried c lane acts a) ⊎ ((is_ok r ≡ false) × (a ≡ c)) → ((is_ok q ≡ true) × AreTried d lane acts b) ⊎ ((is_ok q ≡ false) × (b ≡ d)) → a ≡ b
-    go onward (inl (ok, more)) (inl (ok', more')) = onward (subst (λ (s : State). AreTried s lane acts a) same.1 more) more'
-    go onward (inl (ok, more)) (inr (refused, is)) = absurd (false≢true (sym refused ∙ (sym (ap is_ok same.0) ∙ ok)))
-    go onward (inr (refused, is)) (inl (ok, more)) = absurd (false≢true (sym refused ∙ (ap is_ok same.0 ∙ ok)))
-    go onward (inr (refused, is)) (inr (refused', is')) = is ∙ (same.1 ∙ sym is')
+tried_same : (old : State) (lane : ℕ) (acts : List (Option Act)) (goes : Bool) (a b : State) → AreTried old lane acts goes a → AreTried old lane acts goes b → a ≡ b
+tried_same old lane [] goes a b x y = x ∙ sym y
+tried_same old lane (None ∷ acts) goes a b x y = tried_same old lane acts true a b x y
+tried_same old lane (Some act ∷ acts) false a b x y = tried_same old lane acts false a b x y
+tried_same old lane (Some act ∷ acts) true a b (r, gs, c, one, x, on) (q, hs, d, other, y, on') =
+    let same : (r ≡ q) × (c ≡ d) = call_same old c d lane (Call.Act act) r q gs hs one other x y in
+    tried_same d lane acts (is_ok q) a b
+    (subst (λ (s : State). AreTried s lane acts (is_ok q) a) same.1 (subst (λ (it : Result Reply Refusal). AreTried c lane acts (is_ok it) a) same.0 on)) on'
 
 made_same : (old : State) (lane : ℕ) (ask : Ask) (a b : State) → IsAskMade old lane ask a → IsAskMade old lane ask b → a ≡ b
 made_same old lane (Calls call) a b x y = (call_same old a b lane call x.0 y.0 x.1 y.1 x.2 y.2 x.3 y.3).1
 made_same old lane (Passes moment) a b x y = (turn_same old a b (runs.Ticks lane moment x.0 x.1) (runs.Ticks lane moment y.0 y.1) refl x.2 y.2).1
-made_same old lane (Tries acts) a b x y = tried_same old lane acts a b x y
+made_same old lane (Tries acts) a b x y = tried_same old lane acts true a b x y
 
 some_same : (a b : Ask) → Some a ≡ Some b → a ≡ b
 some_same a b e = (cc)

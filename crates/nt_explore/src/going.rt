@@ -42,21 +42,24 @@ fn tick(core: &mut Core, thread: u32, moment: Moment)
     let _answer = core.tick(moment);
 }
 
-/// Makes these acts, one after another, until one is refused.
-fn try_all(core: &mut Core, thread: u32, acts: &[Act]) -> Result<(), AllocError>
-    ensures made { OnOk result (AreTried (state core.old) thread acts.now (state core.new)) }
+/// Makes these acts, one after another: none after one that was refused, up to the next gap.
+fn try_all(core: &mut Core, thread: u32, acts: &[Option<Act>], goes: bool) -> Result<(), AllocError>
+    ensures made { OnOk result (AreTried (state core.old) thread acts.now goes (state core.new)) }
     ensures threads { (state core.new).threads ≡ (state core.old).threads }
 {
     match acts {
-        [act, rest @ ..] => {
+        [it, rest @ ..] => {
+            let Some(act) = it else {
+                return try_all(core, thread, rest, true);
+            };
+            if !goes {
+                return try_all(core, thread, rest, false);
+            }
             let answer = core.call(thread, &Call::Act(*act));
             if is_without_memory(&answer) {
                 return Err(AllocError);
             }
-            if answer.is_err() {
-                return Ok(());
-            }
-            try_all(core, thread, rest)
+            try_all(core, thread, rest, answer.is_ok())
         }
         _ => Ok(()),
     }
@@ -73,7 +76,7 @@ fn make(core: &mut Core, thread: u32, ask: &Ask) -> Result<(), AllocError>
             tick(core, thread, *moment);
             Ok(())
         }
-        Ask::Tries(acts) => try_all(core, thread, acts),
+        Ask::Tries(acts) => try_all(core, thread, acts, true),
     }
 }
 

@@ -1,13 +1,12 @@
 -- What lanes of a plan do: one thing more, the same, and which handles they name.
-use Rattle.std.proofs.Common.{◌≡◌, ◌≢◌, ◌<◌, ◌≤◌, ◌+◌, ◌⊎◌, inl, inr, ℕ, zero, suc, Bool, true, false, ◌||◌, List, [], ◌∷◌, ◌++◌, length, map, set, get_or, refl, sym, ap, ◌∙◌, subst, arith, Some, Contains, ltb}
+use Rattle.std.proofs.Common.{◌≡◌, ◌≢◌, ◌<◌, ◌≤◌, ◌+◌, ◌⊎◌, inl, inr, ℕ, zero, suc, Bool, true, false, ◌||◌, List, [], ◌∷◌, ◌++◌, length, map, set, get_or, refl, sym, ap, ◌∙◌, subst, arith, Option, Some, Contains, ltb}
 use Rattle.std.specs.Prelude.{◌==◌, Vec, Result, Ok, Err, OnErr, MatchBool, ◌↔◌, slice_get, slice_index_or, option_map}
 use Rattle.std.specs.List.{list_any}
 use Rattle.std.proofs.lemmas.Bool.{false≢true}
 use Rattle.std.proofs.lemmas.Bool.Decides.{nat_tests}
 use Rattle.nt_status.proofs.Lists.{contains_none, contains_first, contains_later, contains_cases}
 use Rattle.nt_calls.specs.declared.call.Act.{Act}
-use Rattle.nt_calls.specs.declared.call.Call.{Call}
-use Rattle.nt_apart.specs.Fewer.{handles_asked, handles_of, handles_tried}
+use Rattle.nt_apart.specs.Fewer.{handles_asked, handles_in, handles_tried}
 use Rattle.nt_apart.proofs.Renaming.{test_member}
 use Rattle.std.specs.declared.alloc.Global.{Global}
 use Rattle.std.proofs.lemmas.List.{map-set, map-append, get_or-map, get_or_append_left, get_or_push, length_push}
@@ -140,11 +139,11 @@ any_mapped t [] = refl
 any_mapped t (x ∷ xs) = ap (λ (b : Bool). names_handle t (asked x) || b) (any_mapped t xs)
 
 -- what acts name, act by act
-pub any_tried : (t : ℕ) (acts : List Act) → list_any (λ (act : Act). list_any (λ (y : ℕ). y == t) (handles_of (Call.Act act))) acts ≡ list_any (λ (y : ℕ). y == t) (handles_tried acts)
+pub any_tried : (t : ℕ) (acts : List (Option Act)) → list_any (λ (act : Option Act). list_any (λ (y : ℕ). y == t) (handles_in act)) acts ≡ list_any (λ (y : ℕ). y == t) (handles_tried acts)
 any_tried t [] = refl
 any_tried t (act ∷ acts) =
-    ap (λ (b : Bool). list_any (λ (y : ℕ). y == t) (handles_of (Call.Act act)) || b) (any_tried t acts)
-    ∙ sym (list_any-append (λ (y : ℕ). y == t) (handles_of (Call.Act act)) (handles_tried acts))
+    ap (λ (b : Bool). list_any (λ (y : ℕ). y == t) (handles_in act) || b) (any_tried t acts)
+    ∙ sym (list_any-append (λ (y : ℕ). y == t) (handles_in act) (handles_tried acts))
 
 -- whether something in the plan names the handle, in the lists of lanes
 pub any_lane : (lanes : List (Vec Ask Global)) (t : ℕ)

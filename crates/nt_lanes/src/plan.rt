@@ -3,7 +3,7 @@ ghost use Rattle.std.specs.Prelude.{true, false, ◌≡◌, ◌==◌, ◌↔◌,
 ghost use Rattle.std.specs.Option.{option_copied, option_map};
 ghost use Rattle.nt_look.specs.Orders.{asks};
 ghost use Rattle.std.specs.List.{list_any};
-ghost use Rattle.nt_apart.specs.Fewer.{handles_of, handles_tried};
+ghost use Rattle.nt_apart.specs.Fewer.{handles_in, handles_of, handles_tried};
 ghost use Rattle.nt_calls.specs.declared.call.Call.{Call};
 ghost use Rattle.nt_lanes.specs.Lanes.{asked, IsUnnamed, names_handle, plan_names, plan_of};
 
@@ -20,8 +20,8 @@ pub enum Ask {
     Call(Call),
     /// All moments up to this one pass, counted in 100 ns.
     Tick(Moment),
-    /// Its thread tries these acts, one after another, until one is refused.
-    Tries(Vec<Act>),
+    /// Its thread tries these acts, one after another, in one step. Where one is refused, those after it are left out, up to the next gap.
+    Tries(Vec<Option<Act>>),
 }
 
 /// Whether the act names this handle.
@@ -60,15 +60,25 @@ fn wait_names(wait: &WaitCall, handle: Handle) -> bool
     }
 }
 
-/// Whether one of the acts names this handle.
-fn one_names(acts: &[Act], handle: Handle) -> bool
-    ensures { result ≡ list_any (λ act. list_any (λ named. named == handle) (handles_of (Call.Act act))) acts.now }
+/// Whether the act, if it is no gap, names this handle.
+fn is_named_in(act: Option<Act>, handle: Handle) -> bool
+    ensures { result ≡ list_any (λ named. named == handle) (handles_in act) }
 {
-    acts.iter().any(|act| act_names(*act, handle))
+    match act {
+        Some(act) => act_names(act, handle),
+        None => false,
+    }
+}
+
+/// Whether one of the acts names this handle.
+fn one_names(acts: &[Option<Act>], handle: Handle) -> bool
+    ensures { result ≡ list_any (λ act. list_any (λ named. named == handle) (handles_in act)) acts.now }
+{
+    acts.iter().any(|act| is_named_in(*act, handle))
 }
 
 /// Whether they name this handle.
-fn acts_name(acts: &[Act], handle: Handle) -> bool
+fn acts_name(acts: &[Option<Act>], handle: Handle) -> bool
     ensures { result ≡ list_any (λ named. named == handle) (handles_tried acts.now) }
 {
     one_names(acts, handle)

@@ -70,7 +70,7 @@ fn is_same_call(a: &Call, b: &Call) -> bool
 }
 
 /// Whether both are the same acts.
-fn are_same_acts(acts: &[Act], others: &[Act]) -> bool
+fn are_same_acts(acts: &[Option<Act>], others: &[Option<Act>]) -> bool
     ensures { (result ≡ true) ↔ (acts.now ≡ others.now) }
 {
     match acts {

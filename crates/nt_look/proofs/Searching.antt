@@ -1,6 +1,6 @@
 -- Orders, as turns and as steps of a search.
-use Rattle.std.proofs.Common.{◌≡◌, ◌≤◌, ◌<◌, ℕ, zero, suc, ◌+◌, Bool, true, false, ◌||◌, List, [], ◌∷◌, length, refl, sym, ap, ◌∙◌, subst, arith, Some, None, is_some, inl, inr, Contains}
-use Rattle.std.specs.Prelude.{slice_set, slice_index_or, slice_get}
+use Rattle.std.proofs.Common.{◌≡◌, ◌≤◌, ◌<◌, ℕ, zero, suc, ◌+◌, Bool, true, false, ◌||◌, List, [], ◌∷◌, length, refl, sym, ap, ◌∙◌, subst, arith, Option, Some, None, is_some, inl, inr, Contains}
+use Rattle.std.specs.Prelude.{slice_set, slice_index_or, slice_get, is_ok}
 use Rattle.std.specs.FinMap.{get}
 use Rattle.std.proofs.lemmas.Bool.{false≢true}
 use Rattle.std.proofs.lemmas.Bool.Decides.{nat_tests}
@@ -54,14 +54,14 @@ pub record AsTurns (plan : Plan) (a p q : Point) : Type 0 where
   pub by : AreBy (goes_on plan a) turns
 
 -- acts that are tried are turns of their thread, before others
-tried_turns : (callers : ℕ → Bool) (lane : ℕ) → callers lane ≡ true → (acts : List Act) (old mid end : State) → AreTried old lane acts mid
+tried_turns : (callers : ℕ → Bool) (lane : ℕ) → callers lane ≡ true → (acts : List (Option Act)) (goes : Bool) (old mid end : State) → AreTried old lane acts goes mid
     → (rest : List Turn) → Turns mid rest end → AreBy callers rest → (turns : List Turn) × Turns old turns end × AreBy callers turns
-tried_turns callers lane may [] old mid end tried rest run by = (rest, subst (λ (s : State). Turns s rest end) tried run, by)
-tried_turns callers lane may (act ∷ acts) old mid end (result, grants, next, enough, called, inl (ok, more)) rest run by =
-    let it = tried_turns callers lane may acts next mid end more rest run by in
+tried_turns callers lane may [] goes old mid end tried rest run by = (rest, subst (λ (s : State). Turns s rest end) tried run, by)
+tried_turns callers lane may (None ∷ acts) goes old mid end tried rest run by = tried_turns callers lane may acts true old mid end tried rest run by
+tried_turns callers lane may (Some act ∷ acts) false old mid end tried rest run by = tried_turns callers lane may acts false old mid end tried rest run by
+tried_turns callers lane may (Some act ∷ acts) true old mid end (result, grants, next, enough, called, more) rest run by =
+    let it = tried_turns callers lane may acts (is_ok result) next mid end more rest run by in
     (runs.Calls lane (Call.Act act) result grants ∷ it.0, (next, called, it.1), (may, it.2))
-tried_turns callers lane may (act ∷ acts) old mid end (result, grants, next, enough, called, inr (refused, same)) rest run by =
-    (runs.Calls lane (Call.Act act) result grants ∷ rest, (next, called, subst (λ (s : State). Turns s rest end) same run), (may, by))
 
 pub order_turns : (plan : Plan) (lanes : List ℕ) (a p q : Point) → ((t : ℕ) → place a t ≤ place p t) → Order plan p lanes q → AsTurns plan a p q
 order_turns plan [] a p q later order = record { turns = []; run = ap (λ (x : Point). x.state) order; by = tt }
@@ -94,7 +94,7 @@ order_turns plan (lane ∷ lanes) a p q later order = go goes.ask goes.next goes
       by = (made.3, rest.by);
     }
     go (Tries acts) next made rest =
-        let it = tried_turns (goes_on plan a) lane (may (Tries acts) next) acts p.state mid.state q.state made rest.turns rest.run rest.by in
+        let it = tried_turns (goes_on plan a) lane (may (Tries acts) next) acts true p.state mid.state q.state made rest.turns rest.run rest.by in
         record { turns = it.0; run = it.1; by = it.2 }
 
 -- ---- a hang is for good

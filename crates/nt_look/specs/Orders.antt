@@ -1,5 +1,5 @@
 -- Every order in which threads may make the calls that each of them has to make, one after another.
-use Rattle.std.specs.Prelude.{◌≡◌, ◌≢◌, ◌≤◌, ◌<◌, ◌⊎◌, ◌+◌, ◌↔◌, Contains, ℕ, Bool, true, false, ◌||◌, nat_lt, List, [], ◌∷◌, length, slice_get, slice_index_or, slice_set, Some, Result, Err, is_ok}
+use Rattle.std.specs.Prelude.{◌≡◌, ◌≢◌, ◌≤◌, ◌<◌, ◌⊎◌, ◌+◌, ◌↔◌, Contains, ℕ, Bool, true, false, ◌||◌, nat_lt, List, [], ◌∷◌, length, slice_get, slice_index_or, slice_set, Option, None, Some, Result, Err, is_ok}
 use Rattle.nt_status.specs.declared.limits.TheConstants.{MAX_MOMENT}
 use Rattle.nt_status.specs.declared.refusal.Refusal.{Refusal}
 use Rattle.nt_status.specs.declared.refusal.Refusal.TheVariants.{Memory}
@@ -14,11 +14,12 @@ use Rattle.nt_machine.specs.Dispatcher.{Dispatcher, state}
 use Rattle.nt_machine.specs.Lawful.{IsLawful}
 use Rattle.nt_look.specs.Hangs.{IsStuck, IsKnot}
 
--- what a lane does next: its thread makes a call; or moments pass; or the thread tries acts, one after another, until one is refused
+-- What a lane does next: its thread makes a call; or moments pass; or the thread tries acts, one after another, in one step. Where one is refused, those after
+-- it are left out, up to the next gap.
 pub data Ask : Type 0 where
   Calls : (call : Call) → Ask
   Passes : (moment : ℕ) → Ask
-  Tries : (acts : List Act) → Ask
+  Tries : (acts : List (Option Act)) → Ask
 
 -- for each thread what it is to call, in order; and after the threads' lanes one for the ticks
 abbrev pub Plan : Type 0
@@ -43,18 +44,20 @@ has_more plan p lane = nat_lt (place p lane) (length (asks plan lane))
 abbrev pub goes_on : Plan → Point → ℕ → Bool
 goes_on plan p t = has_more plan p t || pends p.state t
 
--- thread t made these acts, one after another, up to the first that was refused; memory was refused to none
-abbrev pub AreTried : State → ℕ → List Act → State → Type 0
-AreTried old t [] new = new ≡ old
-AreTried old t (act ∷ acts) new =
+-- Thread t tried these acts, one after another. After one that was refused none is made, up to the next gap; memory was refused to none.
+abbrev pub AreTried : State → ℕ → List (Option Act) → (goes : Bool) → State → Type 0
+AreTried old t [] goes new = new ≡ old
+AreTried old t (None ∷ acts) goes new = AreTried old t acts true new
+AreTried old t (Some act ∷ acts) false new = AreTried old t acts false new
+AreTried old t (Some act ∷ acts) true new =
     (result : Result Reply Refusal) × (grants : List Grant) × (mid : State) × (result ≢ Err Memory) × Called old t (Call.Act act) result grants mid
-    × (((is_ok result ≡ true) × AreTried mid t acts new) ⊎ ((is_ok result ≡ false) × (new ≡ mid)))
+    × AreTried mid t acts (is_ok result) new
 
 -- what was asked was made; that memory is refused is no order of the plan, nor that a moment beyond the greatest passes
 abbrev pub IsAskMade : State → ℕ → Ask → State → Type 0
 IsAskMade old t (Calls call) new = (result : Result Reply Refusal) × (grants : List Grant) × (result ≢ Err Memory) × Called old t call result grants new
 IsAskMade old t (Passes moment) new = (result : Result Reply Refusal) × (grants : List Grant) × Ticked old moment result grants new × (moment ≤ MAX_MOMENT)
-IsAskMade old t (Tries acts) new = AreTried old t acts new
+IsAskMade old t (Tries acts) new = AreTried old t acts true new
 
 -- the lane does what comes next in it; a thread that waits makes no call
 pub record Goes (plan : Plan) (old : Point) (lane : ℕ) (new : Point) : Type 0 where

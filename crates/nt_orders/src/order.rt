@@ -13,30 +13,35 @@ use crate::rows::Row;
 use nt_calls::{Act, Call};
 use nt_core::{Core, Grant, Reply};
 use nt_explore::{Ask, OrderVerdict};
-use nt_plans::{Line, Made, bytes_at, put_closes, put_whole, tries_of};
+use nt_plans::{Line, Made, bytes_at, closed_first, put_closes, put_whole, tries_of};
 use nt_status::{Handle, Refusal};
 use nt_wording::answer_of;
 use std::alloc::{AllocError, Global};
 
-/// Tries the acts, and notes the waits that they end. Where a claim is closed first, that it was closed before is no fault of theirs.
+/// Tries the acts, and notes the waits that they end. Answers what the last one answered that was made before the first gap.
 fn try_all(
     core: &mut Core,
     lane: u32,
-    acts: &[Act],
+    acts: &[Option<Act>],
     grants: &mut Vec<Grant>,
 ) -> Result<Reply, Refusal> {
+    let mut told = None;
     let mut answer = Ok(Reply::Done);
     for act in acts {
-        answer = core.call(lane, &Call::Act(*act));
-        grants.extend_from_slice(core.grants())?;
-        if answer.is_err() {
-            break;
+        let Some(act) = act else {
+            told = told.or(Some(answer));
+            answer = Ok(Reply::Done);
+            continue;
+        };
+        if answer.is_ok() {
+            answer = core.call(lane, &Call::Act(*act));
+            grants.extend_from_slice(core.grants())?;
+        }
+        if answer == Err(Refusal::Memory) {
+            return answer;
         }
     }
-    match acts {
-        [Act::Close(_), ..] => Ok(Reply::Done),
-        _ => answer,
-    }
+    told.unwrap_or(answer)
 }
 
 /// Makes what the lane is asked for, and notes the waits that this ends.
@@ -177,7 +182,7 @@ impl Gone {
         ensures at { self.new.at ≡ self.old.at }
     {
         let closed = tries_of(alloc, &self.closed, ask)?;
-        put_closes(&mut self.text, late, lane, &closed)?;
+        put_closes(&mut self.text, late, lane, &closed_first(ask), &closed)?;
         self.closed.extend_from_slice(&closed)
     }
 }

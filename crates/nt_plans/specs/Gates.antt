@@ -1,8 +1,8 @@
 -- Gates: a late creation, one after a call, is a step of its lane too. It is made before all calls, so that each handle keeps its number, and an
 -- event that no line names, its gate, is set when its line goes. What names its handle in another lane waits for the gate first. Its claim is a handle
--- that no line names either, and is closed once: as its line goes, or before that by a line that closes what it makes another handle of. Then the creation is
--- refused: what it made is closed with the claim, and so are what others make of that, and their claims.
-use Rattle.std.specs.Prelude.{◌≡◌, ℕ, ◌+◌, ◌==◌, ◌&&◌, ◌++◌, nat_lt, Bool, true, false, not, List, [], ◌∷◌, length, map, replicate, slice_get, slice_set, slice_index_or, Option, None, Some, is_some, Result, Ok, if◌then◌else◌, codes}
+-- that no line names either, and is closed once: as its line goes, or before that, in one step with a line that closes what it makes another handle of. Then
+-- the creation is refused: what it made is closed in that step too, and so are what others make of that, and their claims.
+use Rattle.std.specs.Prelude.{◌≡◌, ℕ, ◌+◌, ◌==◌, ◌&&◌, ◌||◌, ◌++◌, nat_lt, Bool, true, false, not, List, [], ◌∷◌, length, map, replicate, slice_get, slice_set, slice_index_or, Option, None, Some, is_some, Result, Ok, if◌then◌else◌, codes}
 use Rattle.std.specs.List.{filter, find, fold, list_any}
 use Rattle.std.specs.Fmt.{decimal}
 use Rattle.nt_status.specs.declared.limits.TheConstants.{INFINITE}
@@ -100,10 +100,6 @@ wait_line lane number = codes "; t" ++ (decimal lane ++ (codes " waits for line 
 abbrev pub made_line : ℕ → List ℕ
 made_line number = codes "; line " ++ (decimal number ++ codes " goes here")
 
--- and so where its claim is closed first
-abbrev pub taken_line : ℕ → ℕ → List ℕ
-taken_line lane number = codes "; t" ++ (decimal lane ++ (codes " closes the source of line " ++ decimal number))
-
 -- the lane has passed this gate
 abbrev pub has_passed : List Pass → ℕ → ℕ → Bool
 has_passed passed lane gate = list_any (λ pass. (pass.lane == lane) && (pass.gate == gate)) passed
@@ -156,21 +152,23 @@ with_lost lost made = if is_among lost made.source then lost ++ made.handle ∷ 
 abbrev pub lost_with : List Made → ℕ → List ℕ
 lost_with all handle = fold with_lost (handle ∷ []) all
 
--- the claim is closed; if it stood, so are these
-abbrev pub taking : ℕ → List ℕ → Ask
-taking claim lost = Tries (map Act.Close (claim ∷ lost))
+-- the claim is closed, and if it stood, so are these; then stands a gap
+abbrev pub taking : ℕ → List ℕ → List (Option Act)
+taking claim lost = map (λ handle. Some (Act.Close handle)) (claim ∷ lost) ++ None ∷ []
 
--- the line closes the claim of that creation first
-abbrev pub takes_claim : List Made → Laid → Item → Made → Laid
-takes_claim all laid item made = with_line laid item.lane (taking made.claim (lost_with all made.handle)) (taken_line item.lane made.number)
+-- the line closes the claim of that creation too, if it may close first what that makes another handle of
+abbrev pub with_claim : List Made → Laid → Item → List (Option Act) → Made → List (Option Act)
+with_claim all laid item claims made = if may_close_first laid item made then claims ++ taking made.claim (lost_with all made.handle) else claims
 
--- so it does if it may close first what that makes another handle of
-abbrev pub takes_if_first : List Made → Item → Laid → Made → Laid
-takes_if_first all item laid made = if may_close_first laid item made then takes_claim all laid item made else laid
+-- the claims that the line closes, of the late creations above it
+abbrev pub claims_of : List Made → List Made → Laid → Item → List (Option Act)
+claims_of all above laid item = fold (with_claim all laid item) [] above
 
--- what stands before a line for one of the late creations above it
-abbrev pub before_line : List Made → Item → Laid → Made → Laid
-before_line all item laid made = takes_if_first all item (after_if_named item.lane item.does laid made) made
+-- what is asked, and in the same step these claims are closed, if there are any
+abbrev pub with_claims : Ask → List (Option Act) → Ask
+with_claims ask [] = ask
+with_claims (Calls (Call.Act act)) (claim ∷ claims) = Tries (Some act ∷ None ∷ claim ∷ claims)
+with_claims ask (claim ∷ claims) = ask
 
 -- it is the lane of one of so many threads, and has nothing to do yet
 abbrev pub is_new : ℕ → ℕ → Laid → Bool
@@ -190,29 +188,48 @@ abbrev pub after_beginning : ℕ → List Made → ℕ → Laid → Laid
 after_beginning threads above lane laid = if is_new threads lane laid then after_any lane laid (beginning_of lane above) else laid
 
 -- what stands before a line, for all late creations above it
-abbrev pub after_all : ℕ → List Made → List Made → Laid → Item → Laid
-after_all threads all above laid item = fold (before_line all item) (after_beginning threads above item.lane laid) above
+abbrev pub after_all : ℕ → List Made → Laid → Item → Laid
+after_all threads above laid item = fold (after_if_named item.lane item.does) (after_beginning threads above item.lane laid) above
 
 -- ---- claims that are closed
 
--- what acts close that are tried, up to the first of these that was closed before
-abbrev pub closed_in : List ℕ → List Act → List ℕ
-closed_in closed [] = []
-closed_in closed (Act.Close handle ∷ acts) = if list_any (λ it. it == handle) closed then [] else handle ∷ closed_in closed acts
-closed_in closed (act ∷ acts) = closed_in closed acts
+-- acts go on after this one: at a gap they do, and not where it closes what was closed before
+abbrev pub goes_after : List ℕ → Option Act → Bool → Bool
+goes_after closed None goes = true
+goes_after closed (Some (Act.Close handle)) goes = goes && not (list_any (λ it. it == handle) closed)
+goes_after closed (Some act) goes = goes
+
+-- the handle that is closed so, if acts go on
+abbrev pub closed_if : Bool → Option Act → List ℕ
+closed_if true (Some (Act.Close handle)) = handle ∷ []
+closed_if goes act = []
+
+-- what acts close that are tried; what was closed before is refused, with those after it up to the next gap
+abbrev pub closed_in : List ℕ → List (Option Act) → Bool → List ℕ
+closed_in closed [] goes = []
+closed_in closed (act ∷ acts) goes = closed_if (goes_after closed act goes) act ++ closed_in closed acts (goes_after closed act goes)
 
 -- what is closed so where this is asked
 abbrev pub tries_of : List ℕ → Option Ask → List ℕ
-tries_of closed (Some (Tries acts)) = closed_in closed acts
+tries_of closed (Some (Tries acts)) = closed_in closed acts true
 tries_of closed ask = []
 
 -- the handle is a claim of one of these
 abbrev pub is_claim : List Made → ℕ → Bool
 is_claim late handle = list_any (λ made. made.claim == handle) late
 
--- what is closed so, but for claims
+-- the handle that the line itself closes, where it closes claims too
+abbrev pub closed_first : Option Ask → Option ℕ
+closed_first (Some (Tries (Some (Act.Close handle) ∷ acts))) = Some handle
+closed_first ask = None
+
+-- the script tells of it already that this handle is closed: it is a claim, or that which the line itself closes
+abbrev pub is_told : List Made → Option ℕ → ℕ → Bool
+is_told late first handle = is_claim late handle || is_handle handle first
+
+-- the others that are closed so
 abbrev pub lost_by : List Made → List ℕ → Option Ask → List ℕ
-lost_by late closed ask = filter (λ handle. not (is_claim late handle)) (tries_of closed ask)
+lost_by late closed ask = filter (λ handle. not (is_told late (closed_first ask) handle)) (tries_of closed ask)
 
 -- the line with which thread t closes this handle
 abbrev pub close_line : ℕ → ℕ → List ℕ
@@ -260,7 +277,7 @@ all_made gates items = fold (λ above item. with_made gates above item item.does
 
 -- its gate is set, and its claim is closed, in one step
 abbrev pub opening : (gate claim : ℕ) → Ask
-opening gate claim = Tries (Act.SetEvent gate ∷ Act.Close claim ∷ [])
+opening gate claim = Tries (Some (Act.SetEvent gate) ∷ Some (Act.Close claim) ∷ [])
 
 -- its line goes so
 abbrev pub opened_by : Laid → Made → Laid
@@ -270,15 +287,22 @@ opened_by laid made = with_passed (with_line laid made.who (opening made.gate ma
 abbrev pub with_opened : Planned → Made → Planned
 with_opened old made = record { laid = opened_by old.laid made; above = old.above ++ made ∷ [] }
 
+-- the call or tick on this line goes, and in the same step the claims are closed that it closes
+abbrev pub asks_last : List Made → Planned → Item → Ask → Planned
+asks_last all old item ask = record {
+  laid = with_line old.laid item.lane (with_claims ask (claims_of all old.above old.laid item)) item.bytes;
+  above = old.above;
+}
+
 -- the line goes when all went for which it waits
-abbrev pub goes_last : Gates → Planned → Item → Does → Planned
-goes_last gates old item (Asks ask) = record { laid = with_line old.laid item.lane ask item.bytes; above = old.above }
-goes_last gates old item (Makes handle source) = with_opened old (made_by gates old.above item handle source)
+abbrev pub goes_last : Gates → List Made → Planned → Item → Does → Planned
+goes_last gates all old item (Asks ask) = asks_last all old item ask
+goes_last gates all old item (Makes handle source) = with_opened old (made_by gates old.above item handle source)
 
 -- a line more is planned
 abbrev pub planned_on : ℕ → Gates → List Made → Planned → Item → Planned
 planned_on threads gates all old item =
-    goes_last gates (record { laid = after_all threads all old.above old.laid item; above = old.above }) item item.does
+    goes_last gates all (record { laid = after_all threads old.above old.laid item; above = old.above }) item item.does
 
 -- nothing is planned yet
 abbrev pub none_planned : ℕ → Planned

@@ -2,7 +2,7 @@
 ghost use Rattle.std.specs.Prelude.{◌≡◌, ◌++◌, ◌∷◌, IfOk, OnOk, codes, decimal, map};
 ghost use Rattle.nt_calls.specs.declared.call.Act as Act;
 ghost use Rattle.nt_lanes.specs.Lanes.{asked};
-ghost use Rattle.nt_plans.specs.Gates.{after, after_all, after_beginning, after_if_named, before_line, beginning_of, has_passed, is_new, lost_with, made_line, may_close_first, none_laid, opened_by, opening, taken_line, takes_claim, takes_if_first, taking, wait_for, wait_line, with_line, with_passed};
+ghost use Rattle.nt_plans.specs.Gates.{after, after_all, after_beginning, after_if_named, beginning_of, claims_of, has_passed, is_new, lost_with, made_line, may_close_first, none_laid, opened_by, opening, taking, wait_for, wait_line, with_claim, with_claims, with_line, with_passed};
 ghost use Rattle.nt_plans.specs.Kept.{does_of, item_of, laid_of};
 ghost use Rattle.std.specs.List.{fold};
 ghost use Rattle.std.specs.Option.{option_copied};
@@ -69,22 +69,41 @@ fn lost_with(alloc: Global, all: &[Made], handle: Handle) -> Result<Vec<Handle>,
     Ok(lost)
 }
 
-/// The claim is closed; if it stood, so are these.
-fn taking(alloc: Global, claim: Handle, lost: &[Handle]) -> Result<Ask, AllocError>
-    ensures { IfOk result (λ ask. asked ask ≡ taking claim lost.now) }
+/// Puts that the claim is closed, and if it stood, so are these; and a gap.
+fn put_taking(acts: &mut Vec<Option<Act>>, claim: Handle, lost: &[Handle]) -> Result<(), AllocError>
+    ensures { OnOk result (acts.new.items ≡ acts.old.items ++ taking claim lost.now) }
 {
-    let mut acts = Vec::from_slice(alloc, &[Act::Close(claim)])?;
+    acts.push(Some(Act::Close(claim)))?;
     for handle in lost {
-        acts.push(Act::Close(*handle))?;
+        acts.push(Some(Act::Close(*handle)))?;
     }
-    Ok(Ask::Tries(acts))
+    acts.push(None)?;
+    Ok(())
+}
+
+/// What is asked, and in the same step these claims are closed, if there are any.
+pub(crate) fn with_claims(
+    alloc: Global,
+    ask: Ask,
+    claims: &[Option<Act>],
+) -> Result<Ask, AllocError>
+    ensures { IfOk result (λ both. asked both ≡ with_claims (asked ask) claims.now) }
+{
+    match &ask {
+        Ask::Call(Call::Act(act)) if !claims.is_empty() => {
+            let mut acts = Vec::from_slice(alloc, &[Some(*act), None])?;
+            acts.extend_from_slice(claims)?;
+            Ok(Ask::Tries(acts))
+        }
+        _ => Ok(ask),
+    }
 }
 
 /// The gate is set, and the claim is closed, in one step.
 fn opening(alloc: Global, gate: Handle, claim: Handle) -> Result<Ask, AllocError>
     ensures { IfOk result (λ ask. asked ask ≡ opening gate claim) }
 {
-    let acts = Vec::from_slice(alloc, &[Act::SetEvent(gate), Act::Close(claim)])?;
+    let acts = Vec::from_slice(alloc, &[Some(Act::SetEvent(gate)), Some(Act::Close(claim))])?;
     Ok(Ask::Tries(acts))
 }
 
@@ -107,36 +126,12 @@ fn put_made(out: &mut Vec<u8>, number: u64) -> Result<(), AllocError>
     out.extend_from_slice(b" goes here")
 }
 
-/// Puts the comment that stands for a claim that is closed first.
-fn put_taken(out: &mut Vec<u8>, lane: u32, number: u64) -> Result<(), AllocError>
-    ensures { OnOk result (out.new.items ≡ out.old.items ++ taken_line lane number) }
-{
-    out.extend_from_slice(b"; t")?;
-    put_number(out, u64::from(lane))?;
-    out.extend_from_slice(b" closes the source of line ")?;
-    put_number(out, number)
-}
-
 /// The line of a wait: that of this number waits, in this lane, for the line of that number.
 fn line_of_wait(alloc: Global, number: u64, lane: u32, other: u64) -> Result<Line, AllocError>
     ensures { IfOk result (λ line. line.bytes.items ≡ wait_line lane other) }
 {
     let mut bytes = Vec::new(alloc);
     put_wait(&mut bytes, lane, other)?;
-    let text = Vec::from_slice(alloc, &bytes[2..])?;
-    Ok(Line {
-        number,
-        text,
-        bytes,
-    })
-}
-
-/// The line of a claim that is closed before the line of this number.
-fn line_of_taken(alloc: Global, number: u64, lane: u32, other: u64) -> Result<Line, AllocError>
-    ensures { IfOk result (λ line. line.bytes.items ≡ taken_line lane other) }
-{
-    let mut bytes = Vec::new(alloc);
-    put_taken(&mut bytes, lane, other)?;
     let text = Vec::from_slice(alloc, &bytes[2..])?;
     Ok(Line {
         number,
@@ -261,67 +256,54 @@ impl Laid {
         item.does.closes(made.source) && !self.has_passed(item.lane, made.gate)
     }
 
-    /// The line closes the claim of the late creation first, one of all these.
-    fn take_claim(
-        &mut self,
+    /// Puts that the line closes the claim of this late creation, one of all these, if it may close first what that makes another handle of.
+    fn put_claim(
+        &self,
         alloc: Global,
+        claims: &mut Vec<Option<Act>>,
         all: &[Made],
         item: &Item,
         made: &Made,
     ) -> Result<(), AllocError>
-        ensures { OnOk result (laid_of self.new
-            ≡ takes_claim all.now (laid_of self.old) (item_of item.now) made.now) }
-    {
-        let line = line_of_taken(alloc, item.line.number, item.lane, made.number)?;
-        let lost = lost_with(alloc, all, made.handle)?;
-        self.push(item.lane, taking(alloc, made.claim, &lost)?, line)
-    }
-
-    /// So it does if it may close first what that makes another handle of.
-    fn take_if_first(
-        &mut self,
-        alloc: Global,
-        all: &[Made],
-        item: &Item,
-        made: &Made,
-    ) -> Result<(), AllocError>
-        ensures { OnOk result (laid_of self.new
-            ≡ takes_if_first all.now (item_of item.now) (laid_of self.old) made.now) }
+        ensures { OnOk result (claims.new.items
+            ≡ with_claim all.now (laid_of self.now) (item_of item.now) claims.old.items made.now) }
     {
         if self.may_close_first(item, made) {
-            self.take_claim(alloc, all, item, made)?;
+            let lost = lost_with(alloc, all, made.handle)?;
+            put_taking(claims, made.claim, &lost)?;
         }
         Ok(())
     }
 
-    /// What the line does before it goes, for one late creation above it, one of all these.
-    fn begin_line(
-        &mut self,
-        alloc: Global,
-        all: &[Made],
-        item: &Item,
-        made: &Made,
-    ) -> Result<(), AllocError>
-        ensures { OnOk result (laid_of self.new
-            ≡ before_line all.now (item_of item.now) (laid_of self.old) made.now) }
-    {
-        self.wait_if_named(alloc, item, made)?;
-        self.take_if_first(alloc, all, item, made)
-    }
-
-    /// The same for each of these creations.
-    fn begin_for_each(
-        &mut self,
+    /// The claims that the line closes, of the late creations above it, and what is lost then of all these.
+    pub(crate) fn claims(
+        &self,
         alloc: Global,
         all: &[Made],
         above: &[Made],
         item: &Item,
+    ) -> Result<Vec<Option<Act>>, AllocError>
+        ensures { IfOk result (λ claims. claims.items ≡ claims_of all.now above.now (laid_of self.now) (item_of item.now)) }
+    {
+        let mut claims = Vec::new(alloc);
+        for made in above {
+            self.put_claim(alloc, &mut claims, all, item, made)?;
+        }
+        Ok(claims)
+    }
+
+    /// Where the line names what one of these late creations gave, it waits for that.
+    fn begin_for_each(
+        &mut self,
+        alloc: Global,
+        above: &[Made],
+        item: &Item,
     ) -> Result<(), AllocError>
         ensures { OnOk result (laid_of self.new
-            ≡ fold (before_line all.now (item_of item.now)) (laid_of self.old) above.now) }
+            ≡ fold (after_if_named item.now.lane (does_of item.now.does)) (laid_of self.old) above.now) }
     {
         for made in above {
-            self.begin_line(alloc, all, item, made)?;
+            self.wait_if_named(alloc, item, made)?;
         }
         Ok(())
     }
@@ -331,15 +313,14 @@ impl Laid {
         &mut self,
         alloc: Global,
         threads: u32,
-        all: &[Made],
         above: &[Made],
         item: &Item,
     ) -> Result<(), AllocError>
         ensures { OnOk result (laid_of self.new
-            ≡ after_all threads all.now above.now (laid_of self.old) (item_of item.now)) }
+            ≡ after_all threads above.now (laid_of self.old) (item_of item.now)) }
     {
         self.begin(alloc, threads, above, item)?;
-        self.begin_for_each(alloc, all, above, item)
+        self.begin_for_each(alloc, above, item)
     }
 
     /// The late creation on this line goes.

@@ -3,7 +3,7 @@
 //!
 //! Each line is a creation, which is made first ([`Found::Start`]), or is asked of a lane ([`find_in`]). A creation after a call is a line of its
 //! thread too ([`Does::Makes`]): its gate, an event, is set there, and what names it in another thread waits for that ([`plan_all`]). A line
-//! that closes what it is made of closes its claim first, and without that the creation is refused ([`Gates`], [`make_gates`]).
+//! that closes what it is made of closes its claim in the same step, and without that the creation is refused ([`Gates`], [`make_gates`]).
 #![tactic(auto)]
 
 mod claims;
@@ -12,7 +12,7 @@ mod laying;
 mod line;
 mod planning;
 
-pub use claims::{put_closes, tries_of};
+pub use claims::{closed_first, put_closes, tries_of};
 pub use items::{Creation, Does, Ended, Found, Item, LaneFault, closed_by, find_in};
 pub use laying::{Laid, Made, Pass};
 pub use line::{Line, bytes_at, line_of, put_whole};

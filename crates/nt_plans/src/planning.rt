@@ -1,17 +1,19 @@
 //! A script's lines are planned, with gates for late creations.
 ghost use Rattle.std.specs.Prelude.{◌≡◌, ◌≤◌, ◌++◌, ◌∷◌, [], count_by, if◌then◌else◌, length, map, true, IfOk, OnOk};
 ghost use Rattle.std.specs.List.{list_any};
+ghost use Rattle.nt_lanes.specs.Lanes.{asked};
 ghost use Rattle.nt_machine.specs.Dispatcher.{state};
-ghost use Rattle.nt_plans.specs.Gates.{ClosesIf, Gives, Makes, MakesOne, MakesUnnamed, all_made, goes_last, is_late, is_named, is_race, made_by, makes, names, none_planned, planned_all, planned_on, race_of, unnamed_of, with_made};
+ghost use Rattle.nt_plans.specs.Gates.{ClosesIf, Gives, MakesOne, MakesUnnamed, all_made, asks_last, goes_last, is_late, is_named, is_race, made_by, makes, names, none_planned, planned_all, planned_on, race_of, unnamed_of, with_made, with_opened};
 ghost use Rattle.nt_plans.specs.Kept.{does_of, gates_of, item_of, planned_of};
 ghost use Rattle.nt_plans.specs.Lines.{AreGates};
 
 use crate::items::{Does, Item, copy_of};
-use crate::laying::{Laid, Made};
+use crate::laying::{Laid, Made, with_claims};
 use crate::line::Line;
 use nt_calls::{Act, Call};
 use nt_core::Core;
 use nt_grammar::handle_of;
+use nt_lanes::Ask;
 use nt_status::{EventFlags, Handle, MAX_HANDLES};
 use std::alloc::{AllocError, Global};
 
@@ -213,7 +215,7 @@ impl Planned {
         source: Option<Handle>,
     ) -> Result<(), AllocError>
         ensures { OnOk result (planned_of self.new
-            ≡ goes_last (gates_of gates.now) (planned_of self.old) (item_of item.now) (Makes handle source)) }
+            ≡ with_opened (planned_of self.old) (made_by (gates_of gates.now) (planned_of self.old).above (item_of item.now) handle source)) }
     {
         let made = made_by(gates, &self.above, item, handle, source)?;
         self.laid.open(alloc, &item.line, &made)?;
@@ -221,15 +223,29 @@ impl Planned {
         Ok(())
     }
 
-    /// The line goes.
-    fn go(&mut self, alloc: Global, gates: &Gates, item: &Item) -> Result<(), AllocError>
+    /// The call or tick on this line goes, and in the same step the claims are closed that it closes. All late creations are these.
+    fn ask(&mut self, alloc: Global, all: &[Made], item: &Item, ask: &Ask) -> Result<(), AllocError>
         ensures { OnOk result (planned_of self.new
-            ≡ goes_last (gates_of gates.now) (planned_of self.old) (item_of item.now) (does_of item.now.does)) }
+            ≡ asks_last all.now (planned_of self.old) (item_of item.now) (asked ask.now)) }
+    {
+        let claims = self.laid.claims(alloc, all, &self.above, item)?;
+        let ask = with_claims(alloc, copy_of(ask)?, &claims)?;
+        self.laid.push(item.lane, ask, line_of(&item.line)?)
+    }
+
+    /// The line goes.
+    fn go(
+        &mut self,
+        alloc: Global,
+        gates: &Gates,
+        all: &[Made],
+        item: &Item,
+    ) -> Result<(), AllocError>
+        ensures { OnOk result (planned_of self.new
+            ≡ goes_last (gates_of gates.now) all.now (planned_of self.old) (item_of item.now) (does_of item.now.does)) }
     {
         match &item.does {
-            Does::Asks(ask) => self
-                .laid
-                .push(item.lane, copy_of(ask)?, line_of(&item.line)?),
+            Does::Asks(ask) => self.ask(alloc, all, item, ask),
             Does::Makes { handle, source } => self.make(alloc, gates, item, *handle, *source),
         }
     }
@@ -246,9 +262,8 @@ impl Planned {
         ensures { OnOk result (planned_of self.new
             ≡ planned_on threads (gates_of gates.now) all.now (planned_of self.old) (item_of item.now)) }
     {
-        self.laid
-            .begin_for_all(alloc, threads, all, &self.above, item)?;
-        self.go(alloc, gates, item)
+        self.laid.begin_for_all(alloc, threads, &self.above, item)?;
+        self.go(alloc, gates, all, item)
     }
 }
 

@@ -221,8 +221,8 @@ fn ask_of(alloc: Global, does: Does) -> Result<Ask, Refusal> {
         Gives(lock) => Ok(Ask::Call(Call::Act(Act::ReleaseMutex(Handle::new(lock))))),
         Drops(lock) => {
             let mut acts = Vec::new(alloc);
-            acts.push(Act::ReleaseMutex(Handle::new(lock)))?;
-            acts.push(Act::Close(Handle::new(lock)))?;
+            acts.push(Some(Act::ReleaseMutex(Handle::new(lock))))?;
+            acts.push(Some(Act::Close(Handle::new(lock))))?;
             Ok(Ask::Tries(acts))
         }
     }
