@@ -219,6 +219,12 @@ pub record Whole (count : ℕ) (now : Option Progress) (left held held' : Option
   pub carried : CarriedOut (lines_of input) turns text now
   pub written : Appends held held' text
 
+-- The lines before this one were carried out; or all were, so many; or why the run ended before it.
+abbrev pub Passes : ℕ → (new : Runner) → (reader reader' : Reading) → (writer writer' : Writing) → Result (Option ℕ) RunFault → Type 0
+Passes number new reader reader' writer writer' (Ok None) = SoFar number (progress_of new.session) reader.left (to_come new.input reader'.left) writer.held writer'.held
+Passes number new reader reader' writer writer' (Ok (Some count)) = Whole count (progress_of new.session) reader.left writer.held writer'.held
+Passes number new reader reader' writer writer' (Err fault) = Answers reader.left reader'.left writer.held writer'.held (Err fault)
+
 abbrev pub summary_at : ℕ → Progress → Summary
 summary_at lines now =
     record { lines = lines; calls = now.tally.calls; refused = now.tally.refused; granted = now.tally.granted; pending = len now.state.waits }

@@ -12,7 +12,7 @@
 //!
 //! - What a line says is a function of the line and of the names that were bound so far (`nt_grammar`).
 //! - A [`Session`] has the dispatcher, the names, and a count of what was done; [`carry_out`] takes it by one line. [`run`] takes it
-//!   from a reader's first line to its last, and writes the transcript as it goes.
+//!   from a reader's first line to its last, and writes the transcript as it goes; a [`Runner`] can stop before a line.
 //! - Room for a line's output is made before its call, so where memory runs out no line's output is half written.
 //! - The output is a function of the input ([`output_is_a_function_of_the_input`]).
 #![tactic(auto)]
@@ -29,6 +29,6 @@ mod transcript;
 pub use fault::RunFault;
 pub use laws::output_is_a_function_of_the_input;
 pub use nt_devices::{Counted, Sink, Source};
-pub use runner::run;
+pub use runner::{Runner, run};
 pub use session::{Session, carry_out};
 pub use summary::Summary;

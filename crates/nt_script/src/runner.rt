@@ -1,9 +1,11 @@
 //! Scripts to transcripts.
 
-ghost use Rattle.std.specs.Prelude.{◌≡◌, ◌+◌, ◌-◌, ◌<◌, ◌≤◌, ◌^◌, [], length, IfOk, IfErr, OnOk, None, false, vec_capacity};
+ghost use Rattle.std.specs.Prelude.{◌≡◌, ◌+◌, ◌-◌, ◌<◌, ◌≤◌, ◌^◌, [], length, IfOk, IfErr, IfSome, OnOk, Err, None, false, vec_capacity};
+ghost use Rattle.std.specs.Option.{option_copied};
+ghost use Rattle.nt_lines.specs.Lines.{to_come, CountsReadFault, ReadsLine, StopsInLine};
 ghost use Rattle.nt_lines.specs.declared.input.TheConstants.{MAX_LINE};
 ghost use Rattle.nt_script.specs.Progress.{AreCounted, progress_of};
-ghost use Rattle.nt_script.specs.Running.{Answers, CountsFailures, CountsFaults, NothingAhead, RunnerTakesNext, WritesLine, WritesOutput, RunEnds};
+ghost use Rattle.nt_script.specs.Running.{Answers, CountsFailures, CountsFaults, NothingAhead, Passes, RunnerTakesNext, WritesLine, WritesOutput, RunEnds};
 
 use crate::fault::RunFault;
 use crate::session::{Session, carry_out};
@@ -13,9 +15,11 @@ use nt_grammar::{LineFault, ScriptFault};
 use nt_lines::{Ending, Input, MAX_LINE, ReadFault};
 use std::alloc::{AllocError, Global};
 
+/// A script that is carried out line by line, between a reader and a writer.
 #[derive(Drop)]
-struct Runner {
+pub struct Runner {
     input: Input,
+    /// The line that was read last.
     line: Vec<u8>,
     out: Vec<u8>,
     session: Option<Session>,
@@ -30,7 +34,8 @@ enum Taken {
 }
 
 impl Runner {
-    fn new(alloc: Global) -> Result<Runner, AllocError>
+    /// Nothing is read yet.
+    pub fn new(alloc: Global) -> Result<Runner, AllocError>
         ensures input { IfOk result (λ runner. runner.input ≡ []) }
         ensures session { IfOk result (λ runner. runner.session ≡ None) }
         ensures line { IfOk result (λ runner. MAX_LINE + 1 ≤ vec_capacity runner.line) }
@@ -41,6 +46,35 @@ impl Runner {
             out: Vec::new(alloc),
             session: None,
         })
+    }
+
+    /// Reads the next line, and carries out nothing.
+    pub fn read_line<R: Source>(&mut self, reader: &mut R) -> Result<Ending, ReadFault>
+        requires { MAX_LINE + 1 ≤ vec_capacity self.old.line }
+        ensures ok { IfOk result (ReadsLine (to_come self.old.input (R.seen reader.old).left)
+            (to_come self.new.input (R.seen reader.new).left) self.new.line.items) }
+        ensures err { IfErr result (StopsInLine (to_come self.old.input (R.seen reader.old).left)
+            (to_come self.new.input (R.seen reader.new).left) self.new.line.items) }
+        ensures nothing_ahead { result ≡ Err ReadFault.Failed → self.new.input ≡ [] }
+        ensures counted { CountsReadFault (R.seen reader.old).failed (R.seen reader.new).failed result }
+        ensures line { MAX_LINE + 1 ≤ vec_capacity self.new.line }
+        ensures session { self.new.session ≡ self.old.session }
+    {
+        self.input.read_line(reader, &mut self.line)
+    }
+
+    /// The line that was read last, without the LF that ends it; of one that is too long, its first bytes.
+    pub fn line(&self) -> &[u8]
+        ensures { result.now ≡ self.now.line.items }
+    {
+        &self.line
+    }
+
+    /// The script's session, once its `threads` line was carried out.
+    pub fn session(&self) -> Option<&Session>
+        ensures { option_copied result ≡ self.now.session }
+    {
+        self.session.as_ref()
     }
 
     /// Reads one line, carries it out, and writes what it says.
@@ -125,6 +159,37 @@ impl Runner {
         }
     }
 
+    /// Carries out the lines before this one. Where the input ends before it, the answer is how many lines there were.
+    pub fn pass_to<R: Source, W: Sink>(
+        &mut self,
+        alloc: Global,
+        number: u64,
+        reader: &mut R,
+        writer: &mut W,
+    ) -> Result<Option<u64>, RunFault>
+        requires some { 0 < number }
+        requires input { self.old.input ≡ [] }
+        requires session { self.old.session ≡ None }
+        requires line { MAX_LINE + 1 ≤ vec_capacity self.old.line }
+        ensures passes { Passes number self.new (R.seen reader.old) (R.seen reader.new) (W.seen writer.old)
+            (W.seen writer.new) result }
+        ensures counts { CountsFaults (R.seen reader.old).failed (R.seen reader.new).failed (W.seen writer.old).failed
+            (W.seen writer.new).failed result }
+        ensures unflushed { (W.seen writer.new).flushes ≡ (W.seen writer.old).flushes }
+        ensures line { MAX_LINE + 1 ≤ vec_capacity self.new.line }
+        ensures few { IfOk result (λ count. IfSome count (λ count. count < number)) }
+    {
+        for before in 1..number {
+            match self.take_line(alloc, before, reader, writer) {
+                Ok(Taken::Line) => {}
+                Ok(Taken::LastLine) => return Ok(Some(before)),
+                Ok(Taken::Nothing) => return Ok(Some(before - 1)),
+                Err(fault) => return Err(fault),
+            }
+        }
+        Ok(None)
+    }
+
     /// Carries out the script line by line.
     fn take_lines<R: Source, W: Sink>(
         &mut self,
@@ -143,15 +208,11 @@ impl Runner {
         ensures held { OnOk result ((W.seen writer.new).handed_on ≡ false) }
         ensures lines { IfOk result (λ summary. summary.lines < 2 ^ 64 - 1) }
     {
-        for number in 1..u64::MAX {
-            match self.take_line(alloc, number, reader, writer) {
-                Ok(Taken::Line) => {}
-                Ok(Taken::LastLine) => return self.end(number, writer),
-                Ok(Taken::Nothing) => return self.end(number - 1, writer),
-                Err(fault) => return Err(fault),
-            }
+        match self.pass_to(alloc, u64::MAX, reader, writer) {
+            Ok(Some(count)) => self.end(count, writer),
+            Ok(None) => Err(RunFault::Memory { line: u64::MAX }),
+            Err(fault) => Err(fault),
         }
-        Err(RunFault::Memory { line: u64::MAX })
     }
 }
 
