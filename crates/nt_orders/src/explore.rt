@@ -100,9 +100,8 @@ fn explore_input<F: Files + AllocGlobal, W: Sink, E: Sink, P: Sink>(
 /// Explores the orders of the script that the reader gives, until `most` states are met, and writes which hangs. `file` is what the report
 /// calls the script. If `script` names a file, and an order hangs, that order is written into it as a script, once the report is written.
 ///
-/// Answers the exit status: 0 if none hangs; 3 if some order hangs; 4 if the bound was met before any did; 2 if a line has a fault; 1 if
-/// reading, creating, writing or memory failed. Of 1 and 2 a line on `errors` tells why; a failure to write that is ignored. How far the
-/// search is goes to `progress`.
+/// Answers the exit status: 0 if none hangs; 3 if one does; 4 if the bound was met before; 2 if a line has a fault; 1 if reading, creating,
+/// writing or memory failed. A line on `errors` tells why of 1 and 2, unless that fails. How far the search is goes to `progress`.
 pub fn explore_over<F: Files + AllocGlobal, R: Source, W: Sink, E: Sink, P: Sink>(
     files: &F,
     file: &[u8],

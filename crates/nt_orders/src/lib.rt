@@ -3,9 +3,8 @@
 //!
 //! A script is one order of its threads' calls. Here its lines are a plan (`nt_plans`): what it creates, wherever that stands, is made first;
 //! then each thread keeps the order of its own lines, and the ticks keep theirs ([`Script`]). `nt_explore` tries all orders of the plan, and
-//! the report shows the shortest that hangs: line by line with what each answered, who waits for what at its end, and since when a wait was
-//! lost ([`report_on`]). That order is a script too ([`Findings`]). Where it closes first what a duplicate is made of, that is a fault
-//! ([`OrdersFault`]). [`explore_over`] tells of a reader's script, [`explore_file`] of a file's, and meanwhile a [`Progress`] of how far it is.
+//! the report shows the shortest that hangs, line by line, and since when a wait was lost ([`report_on`]). That order is a script too
+//! ([`Findings`]). [`explore_over`] tells of a reader's script, [`explore_file`] of a file's, and meanwhile a [`Progress`] of how far it is.
 #![tactic(auto)]
 
 mod explore;

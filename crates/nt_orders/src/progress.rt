@@ -9,8 +9,7 @@ use nt_explore::Watcher;
 /// After how many looks a line is told.
 const LOOKS: usize = 64;
 
-/// Tells a sink how far a search is: after each 64 states that were looked at a line with how many those are, how many states were met, and
-/// how many steps deep the last one lies. A failure to write is ignored.
+/// Tells a sink after each 64 looks how many states were looked at and met, and how deep the last one lies. A failure to write is ignored.
 #[derive(Drop)]
 pub struct Progress<P> {
     pub sink: P,
