@@ -81,7 +81,7 @@ pub record IsInFront (number : ℕ) (bytes : List ℕ) (old new : Read) : Type 0
 pub record IsInLane (number : ℕ) (bytes : List ℕ) (old new : Read) : Type 0 where
   pub lane : ℕ
   pub ask : Ask
-  pub line : IsOfLane old.seen.now bytes lane ask
+  pub line : IsOfLane old.seen.now old.ended bytes lane ask
   pub seen : new.seen ≡ old.seen
   pub front : new.front ≡ old.front
   pub items : new.items ≡ old.items ++ record { number = number; bytes = bytes; lane = lane; does = gates.Asks ask } ∷ []

@@ -60,7 +60,7 @@ gates_of made = record { gates = made.gates.items; claims = made.claims.items }
 abbrev pub IsFoundOf : ℕ → Ended → Statement → Result Found LaneFault → Type 0
 IsFoundOf threads ended statement (Ok (found.Start creation)) = (is_of_start ended statement ≡ true) × (creation ≡ creation_of statement)
 IsFoundOf threads ended statement (Ok found.Nothing) = is_left_out ended statement ≡ true
-IsFoundOf threads ended statement (Ok (found.Asks place ask)) = AsksOf threads statement place (asked ask)
+IsFoundOf threads ended statement (Ok (found.Asks place ask)) = AsksOf threads ended statement place (asked ask)
 IsFoundOf threads ended statement (Err (lane.Line fault)) = ⊥
 IsFoundOf threads ended statement (Err lane.NoThread) = is_of_nobody threads statement ≡ true
 
@@ -73,5 +73,5 @@ IsLaneFault now bytes lane.NoThread = IsOfNobody now bytes
 abbrev pub Finds : Option Progress → Ended → List ℕ → Result Found LaneFault → Type 0
 Finds now ended bytes (Ok (found.Start creation)) = IsOfStart now ended bytes creation
 Finds now ended bytes (Ok found.Nothing) = IsLineThat now (is_left_out ended) bytes
-Finds now ended bytes (Ok (found.Asks place ask)) = IsOfLane now bytes place (asked ask)
+Finds now ended bytes (Ok (found.Asks place ask)) = IsOfLane now ended bytes place (asked ask)
 Finds now ended bytes (Err fault) = IsLaneFault now bytes fault

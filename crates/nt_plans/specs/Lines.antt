@@ -58,17 +58,19 @@ IsOfStart None ended bytes creation = creation ≡ None
 IsOfStart (Some now) ended bytes creation =
     (statement : Statement) × IsLine now.scope statement bytes × (is_of_start ended statement ≡ true) × (creation ≡ creation_of statement)
 
--- What a statement asks of a lane, where there are so many threads: a call is asked of its caller's, a tick of the lane after theirs.
-abbrev pub AsksOf : ℕ → Statement → ℕ → Ask → Type 0
-AsksOf threads Blank lane ask = ⊥
-AsksOf threads (Create who name act) lane ask = ⊥
-AsksOf threads (Perform who call) lane ask = (who < threads) × (lane ≡ who) × (ask ≡ Calls call)
-AsksOf threads (Tick moment) lane ask = (lane ≡ threads) × (ask ≡ Passes moment)
+-- What a statement asks of a lane, where there are so many threads: a call is asked of its caller's, unless that has exited, and a tick of the lane after
+-- theirs.
+abbrev pub AsksOf : ℕ → Ended → Statement → ℕ → Ask → Type 0
+AsksOf threads ended Blank lane ask = ⊥
+AsksOf threads ended (Create who name act) lane ask = ⊥
+AsksOf threads ended (Perform who call) lane ask = (who < threads) × (is_among ended.exited (Some who) ≡ false) × (lane ≡ who) × (ask ≡ Calls call)
+AsksOf threads ended (Tick moment) lane ask = (lane ≡ threads) × (ask ≡ Passes moment)
 
 -- The line asks this of this lane.
-abbrev pub IsOfLane : Option Progress → List ℕ → ℕ → Ask → Type 0
-IsOfLane None bytes lane ask = ⊥
-IsOfLane (Some now) bytes lane ask = (statement : Statement) × IsLine now.scope statement bytes × AsksOf now.state.threads statement lane ask
+abbrev pub IsOfLane : Option Progress → Ended → List ℕ → ℕ → Ask → Type 0
+IsOfLane None ended bytes lane ask = ⊥
+IsOfLane (Some now) ended bytes lane ask =
+    (statement : Statement) × IsLine now.scope statement bytes × AsksOf now.state.threads ended statement lane ask
 
 -- ---- faults
 
